@@ -1,0 +1,14 @@
+// Reads an archive's text, packs each of its records and reads it back, and writes what it found.
+use records::report::LIMIT;
+use records::report::answer;
+use std::io;
+use std::io::Read;
+use std::io::Write;
+
+fn main(rt: LibcRuntime) -> io::Result<()> {
+    let mut input = Vec::new(rt.alloc());
+    // one byte more than is served shows that there is more
+    rt.stdin().take(LIMIT as u64 + 1).read_to_end(&mut input)?;
+    let out = answer(rt.alloc(), &input)?;
+    rt.stdout().write_all(&out)
+}

@@ -1,0 +1,4 @@
+mod block;
+pub mod entries;
+mod places;
+pub mod store;

@@ -1,0 +1,110 @@
+use Prim.Native.Nat.{ℕ, zero, suc, _+_, _-_, _*_, _<_, _≤_, min}
+use mathlib.Core.Path.{_≡_, refl, ap, sym, _∙_, subst}
+use mathlib.Core.Bool.{Bool, true, false, cond, not, _&&_, _||_}
+use mathlib.Core.List.{List, [], _∷_, _++_, map, append-assoc, append-nil}
+use mathlib.Core.Logic.{_⊎_, inl, inr}
+use native.Mathlib.Omega.{arith}
+use lib.Dec.{eqb, leb, ltb}
+use lib.ListN.{length, getD, set, take, replicate, length-append}
+use Rattle.std.specs.shelf.Lists.{All}
+use Rattle.std.proofs.shelf.Ways.{tells}
+use Rattle.std.specs.declared.option.Option.{Option}
+use Rattle.std.specs.declared.option.Option.the-variants.{Some, None}
+use Rattle.rules.specs.declared.tables.End.{End}
+use Rattle.rules.specs.declared.tables.HotRow.{HotRow}
+use Rattle.rules.specs.declared.tables.Kind.{Kind}
+use Rattle.rules.specs.declared.tables.Notice.{Notice}
+use Rattle.rules.specs.declared.sheet.Reading.{Reading}
+use Rattle.rules.specs.declared.tables.Begin.the-variants as b
+use Rattle.rules.specs.declared.tables.End.the-variants as e
+use Rattle.rules.specs.declared.tables.MoveMark.the-variants.{Chosen, Copied}
+use Rattle.rules.specs.declared.tables.Kind.the-variants.{N, B, E, BE, X}
+use Rattle.cold.specs.Cold.{Entry, is-of}
+use Rattle.rules.specs.Looking.{is-for, notice-for}
+use Rattle.rules.specs.Moving.{bears}
+use Rattle.rules.specs.Stores.{Store, session-at, horizon-of}
+use Rattle.rules.specs.Times.{open-end}
+use Rattle.slots.specs.Lists.{any, kept, one, each, one-if}
+use Rattle.versions.specs.History.{Turn, History}
+use Rattle.slots.proofs.Folds.{any-append, any-same, none-all, all-none, any-map, all-both, all-then, all-every, all-front, all-back, all-join, each-append, each-same, each-map, each-each, kept-append, each-kept}
+use Rattle.versions.proofs.Versions.{Version, Shaped, v-shaped, Rel, Tidy}
+use Rattle.cells.proofs.Horizons.{Early}
+
+-- the state of a key number and a tag: its notices, its cold entries, the hot rows that bear it
+abbrev pub Quiet-end : ℕ → End → Type 0
+Quiet-end h e.Open = Unit {0}
+Quiet-end h (e.Stamp n) = n ≤ h
+Quiet-end h (e.Mark s) = ⊥
+
+pub record Pending {K : Type 0} (n : Notice K) : Type 0 where
+  pub kind : n .kind ≡ N
+  pub begin : n .begin ≡ 1
+  pub end : n .end ≡ e.Open
+
+module _ {K R : Type 0} where
+  pub data Cell (h : ℕ) (ns : List (Notice K)) (es : List (Entry R)) (ms : List (HotRow K R)) : Type 0 where
+    c-empty : ns ≡ [] → es ≡ [] → ms ≡ [] → Cell h ns es ms
+    c-plain : (c : Entry R) → ns ≡ [] → es ≡ one c → ms ≡ [] → Cell h ns es ms
+    c-idle : (n : Notice K) → ns ≡ one n → Pending n → length es ≤ 1 → ms ≡ [] → Cell h ns es ms
+    c-chosen : (n : Notice K) (m : HotRow K R) (i : ℕ) → ns ≡ one n → Pending n → es ≡ [] → ms ≡ one m → (t : ℕ) → m .mark ≡ Chosen t → m .begin ≡ b.Stamp i → m .end ≡ e.Open → Cell h ns es ms
+    c-copied : (n : Notice K) (m : HotRow K R) (i : ℕ) (c : Entry R) → ns ≡ one n → Pending n → es ≡ one c → ms ≡ one m → (t : ℕ) → m .mark ≡ Copied t → m .begin ≡ b.Stamp i → m .end ≡ e.Open → c .row ≡ m .row → Cell h ns es ms
+    c-begun : (n : Notice K) (c : Entry R) → ns ≡ one n → n .kind ≡ B → n .end ≡ e.Open → es ≡ one c → ms ≡ [] → Cell h ns es ms
+    c-ended : (n : Notice K) (c : Entry R) → ns ≡ one n → n .kind ≡ E → n .begin ≡ 1 → es ≡ one c → ms ≡ [] → open-end (n .end) ≡ false → Cell h ns es ms
+    c-both : (n : Notice K) (c : Entry R) → ns ≡ one n → n .kind ≡ BE → es ≡ one c → ms ≡ [] → open-end (n .end) ≡ false → Cell h ns es ms
+    c-emptied : (n : Notice K) → ns ≡ one n → n .kind ≡ X → n .begin ≤ h → Quiet-end h (n .end) → es ≡ [] → ms ≡ [] → Cell h ns es ms
+
+module _ {R : Type 0} where
+  abbrev pub kind-version : Kind → ℕ → End → R → List (Version R)
+  kind-version N x y r = []
+  kind-version B x y r = one (record { begin = b.Stamp x; end = e.Open; row = r })
+  kind-version E x y r = one (record { begin = b.Stamp 1; end = y; row = r })
+  kind-version BE x y r = one (record { begin = b.Stamp x; end = y; row = r })
+  kind-version X x y r = []
+
+  abbrev pub entry-version : {K : Type 0} → Option (Notice K) → R → List (Version R)
+  entry-version None r = one (record { begin = b.Stamp 1; end = e.Open; row = r })
+  entry-version (Some n) r = kind-version (n .kind) (n .begin) (n .end) r
+
+module _ {K R : Type 0} (number : K → ℕ) where
+  abbrev pub mover : ℕ → ℕ → HotRow K R → Bool
+  mover k tag h = eqb (number (h .key)) k && bears (h .mark) tag
+
+  abbrev pub hot-version : ℕ → HotRow K R → List (Version R)
+  hot-version k h = one-if (eqb (number (h .key)) k) (record { begin = h .begin; end = h .end; row = h .row })
+
+  abbrev pub cold-version : List (Notice K) → ℕ → Entry R → List (Version R)
+  cold-version memo k c = cond (eqb (c .number) k) (entry-version (notice-for number memo (c .number) (c .tag)) (c .row)) []
+
+  abbrev pub hot-part : List (HotRow K R) → ℕ → List (Version R)
+  hot-part hot k = each (hot-version k) hot
+
+  abbrev pub cold-part : List (Notice K) → List (Entry R) → ℕ → List (Version R)
+  cold-part memo cold k = each (cold-version memo k) cold
+
+  abbrev pub versions : Store K R → ℕ → List (Version R)
+  versions σ k = hot-part (σ .hot) k ++ cold-part (σ .memo) (σ .cold) k
+
+  -- the store alone
+  pub record Sound (h last : ℕ) (admits : ℕ → Bool) (hot : List (HotRow K R)) (memo : List (Notice K)) (cold : List (Entry R)) : Type 0 where
+    pub cells : (k tag : ℕ) → Cell h (kept (is-for number k tag) memo) (kept (is-of k tag) cold) (kept (mover k tag) hot)
+    pub unused : (k tag : ℕ) → last < tag → (kept (is-for number k tag) memo ≡ []) × (kept (is-of k tag) cold ≡ [])
+    pub known : (k : ℕ) → any (λ c. eqb (c .number) k) cold ≡ true → admits k ≡ true
+
+  -- a session entry and the history's turn
+  abbrev pub Agree : Option Reading → Option (Turn R) → Type 0
+  Agree None None = Unit {0}
+  Agree None (Some x) = ⊥
+  Agree (Some r) None = ⊥
+  Agree (Some r) (Some x) = (x .mode ≡ r .mode) × (x .read ≡ r .time)
+
+  -- a store and the history of its run
+  pub record Whole (σ : Store K R) (T : History R) : Type 0 where
+    pub clock : σ .clock ≡ T .clock
+    pub many : length (σ .sessions) ≡ 64
+    pub agree : (s : ℕ) → Agree (session-at (σ .sessions) s .reading) (T .turn s)
+    pub early : All (Early (σ .clock)) (σ .sessions)
+    pub started : 1 ≤ σ .clock
+    pub tags : σ .last-tag ≤ 4000000000
+    pub sound : Sound (horizon-of σ) (σ .last-tag) (σ .admits) (σ .hot) (σ .memo) (σ .cold)
+    pub rel : (k : ℕ) → Rel (horizon-of σ) (T .commits) (T .turn) k (versions σ k)
+    pub tidy : (k : ℕ) → Tidy (horizon-of σ) (σ .clock) (T .commits) (T .turn) k

@@ -1,0 +1,4 @@
+pub mod Cold
+pub mod Lists
+pub mod New
+pub mod Sorted

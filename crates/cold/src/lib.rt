@@ -1,0 +1,3 @@
+pub mod halving;
+pub mod sorted;
+pub mod store;

@@ -1,0 +1,17 @@
+pub mod Past
+pub mod Tables
+pub mod Places
+pub mod Acts
+pub mod Later
+pub mod Steps
+pub mod Facts
+pub mod Lines
+pub mod Looks
+pub mod Twins
+pub mod SameAnswers
+pub mod MovesAside
+pub mod Alike
+pub mod Serial
+pub mod Resting
+pub mod SweepsLeft
+pub mod Settled

@@ -1,0 +1,12 @@
+pub mod Times
+pub mod Notices
+pub mod Refusals
+pub mod Horizon
+pub mod Stores
+pub mod Outcomes
+pub mod Looking
+pub mod Opening
+pub mod Selling
+pub mod Moving
+pub mod Cases
+pub mod Told

@@ -1,0 +1,6 @@
+pub mod Folds
+pub mod Edits
+pub mod Few
+pub mod Hits
+pub mod Slots
+mod Loops

@@ -1,0 +1,5 @@
+pub mod Lists
+pub mod Versions
+pub mod Quiet
+pub mod Closing
+pub mod Writing
