@@ -31,8 +31,7 @@ use Rattle.versions.proofs.Versions.{writes-of}
 use Rattle.versions.proofs.Closing.{undo-version, rel-abandon, tidy-abandon}
 use Rattle.cells.proofs.Horizons.{horizon-low, horizon-close}
 use Rattle.cells.proofs.Maps.{each-cond, each-id, kept-each, kept-unless, each-unless}
-use Rattle.cells.proofs.Cells.{Cell, Quiet-end, c-empty, c-plain, c-idle, c-chosen, c-copied, c-begun, c-ended, c-both, c-emptied}
-use Rattle.cells.proofs.Cells.{mover, hot-version, cold-version, hot-part, cold-part, versions, entry-version, Whole}
+use Rattle.cells.proofs.Cells.{Cell, Quiet-end, c-empty, c-plain, c-idle, c-chosen, c-copied, c-begun, c-ended, c-both, c-emptied, mover, hot-version, cold-version, hot-part, cold-part, versions, entry-version, Whole}
 use Rattle.cells.proofs.Rising.{quiet-rise}
 use Rattle.cells.proofs.Sessions.{shut, shut-agree, shut-many, shut-early, shut-reads}
 

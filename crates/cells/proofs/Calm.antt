@@ -1,15 +1,13 @@
-use Prim.Native.Nat.{ℕ, zero, suc, _+_, _-_, _*_, _<_, _≤_, min}
-use mathlib.Core.Path.{_≡_, refl, ap, sym, _∙_, subst}
-use mathlib.Core.Bool.{Bool, true, false, cond, not, _&&_, _||_}
-use mathlib.Core.List.{List, [], _∷_, _++_, map, append-assoc, append-nil}
-use mathlib.Core.Logic.{_⊎_, inl, inr}
+use Prim.Native.Nat.{ℕ, _+_, _-_, _≤_}
+use mathlib.Core.Path.{_≡_, refl, ap, sym, _∙_}
+use mathlib.Core.Bool.{Bool, true, false, cond, not, _&&_}
+use mathlib.Core.List.{List, [], _∷_, _++_}
+use mathlib.Core.Logic.{inl, inr}
 use native.Mathlib.Omega.{arith}
-use lib.Dec.{eqb, leb, ltb}
-use lib.ListN.{length, getD, set, take, replicate, length-append}
+use lib.Dec.{eqb}
+use lib.ListN.{length}
 use Rattle.std.specs.shelf.Lists.{All}
-use Rattle.std.proofs.shelf.Ways.{tells}
-use Rattle.std.specs.declared.option.Option.{Option}
-use Rattle.std.specs.declared.option.Option.the-variants.{Some, None}
+use Rattle.std.specs.declared.option.Option.the-variants.{Some}
 use Rattle.rules.specs.declared.tables.Begin.{Begin}
 use Rattle.rules.specs.declared.tables.End.{End}
 use Rattle.rules.specs.declared.tables.HotRow.{HotRow}
@@ -19,17 +17,16 @@ use Rattle.rules.specs.declared.tables.End.the-variants as e
 use Rattle.rules.specs.declared.tables.MoveMark.the-variants.{Unmoved}
 use Rattle.std.proofs.shelf.Tests.{cases-bool, leb-true}
 use Rattle.cold.specs.Cold.{Entry}
-use Rattle.rules.specs.Moving.{bears, with-mark, row-bears, row-stays, collect-rule}
+use Rattle.rules.specs.Moving.{bears, with-mark, row-bears, row-stays}
 use Rattle.rules.specs.Stores.{Store, with-hot, horizon-of}
 use Rattle.rules.specs.Times.{end-past}
 use Rattle.slots.specs.Lists.{first, at-first, kept, one, each, one-if}
 use Rattle.versions.specs.History.{History}
-use Rattle.slots.proofs.Folds.{any-append, any-same, none-all, all-none, any-map, all-both, all-then, all-every, all-front, all-back, all-join, each-append, each-same, each-map, each-each, kept-append, each-kept}
-use Rattle.versions.proofs.Versions.{Version, Shaped, v-shaped, Rel, Tidy}
-use Rattle.slots.proofs.Folds.{Spot, spot, first-none, first-some}
-use Rattle.slots.proofs.Edits.{kept-kept, kept-passes, kept-none, none-kept, kept-one, first-of-none, first-of-one, first-same, kept-calm, kept-lone, kept-it, kept-change, kept-there, kept-new, each-is, each-set, each-out, each-calm}
+use Rattle.slots.proofs.Folds.{all-front, all-back, each-kept, spot}
+use Rattle.versions.proofs.Versions.{Version, Shaped, v-shaped}
+use Rattle.slots.proofs.Edits.{kept-kept, kept-one, kept-calm, kept-change, each-calm}
 use Rattle.versions.proofs.Quiet.{Fewer, none, same, gone, sunk, rel-fewer}
-use Rattle.cells.proofs.Cells.{Cell, Pending, mover, hot-version, cold-version, hot-part, cold-part, versions, Sound, Agree, Whole, c-empty, c-plain, c-idle, c-chosen, c-copied, c-begun, c-ended, c-both, c-emptied}
+use Rattle.cells.proofs.Cells.{Cell, mover, hot-version, hot-part, cold-part, Whole, c-empty, c-plain, c-idle, c-chosen, c-copied, c-begun, c-ended, c-both, c-emptied}
 
 and-no : (x : Bool) → (x && false) ≡ false
 and-no x = grind arith

@@ -1,13 +1,10 @@
-use Prim.Native.Nat.{ℕ, zero, suc, _+_, _-_, _*_, _<_, _≤_, min}
-use mathlib.Core.Path.{_≡_, refl, ap, sym, _∙_, subst}
-use mathlib.Core.Bool.{Bool, true, false, cond, not, _&&_, _||_}
-use mathlib.Core.List.{List, [], _∷_, _++_, map, append-assoc, append-nil}
-use mathlib.Core.Logic.{_⊎_, inl, inr}
-use native.Mathlib.Omega.{arith}
-use lib.Dec.{eqb, leb, ltb}
-use lib.ListN.{length, getD, set, take, replicate, length-append}
+use Prim.Native.Nat.{ℕ, _+_, _-_, _<_, _≤_}
+use mathlib.Core.Path.{_≡_}
+use mathlib.Core.Bool.{Bool, true, false, cond, _&&_}
+use mathlib.Core.List.{List, [], _++_}
+use lib.Dec.{eqb}
+use lib.ListN.{length}
 use Rattle.std.specs.shelf.Lists.{All}
-use Rattle.std.proofs.shelf.Ways.{tells}
 use Rattle.std.specs.declared.option.Option.{Option}
 use Rattle.std.specs.declared.option.Option.the-variants.{Some, None}
 use Rattle.rules.specs.declared.tables.End.{End}
@@ -26,8 +23,7 @@ use Rattle.rules.specs.Stores.{Store, session-at, horizon-of}
 use Rattle.rules.specs.Times.{open-end}
 use Rattle.slots.specs.Lists.{any, kept, one, each, one-if}
 use Rattle.versions.specs.History.{Turn, History}
-use Rattle.slots.proofs.Folds.{any-append, any-same, none-all, all-none, any-map, all-both, all-then, all-every, all-front, all-back, all-join, each-append, each-same, each-map, each-each, kept-append, each-kept}
-use Rattle.versions.proofs.Versions.{Version, Shaped, v-shaped, Rel, Tidy}
+use Rattle.versions.proofs.Versions.{Version, Rel, Tidy}
 use Rattle.cells.proofs.Horizons.{Early}
 
 -- the state of a key number and a tag: its notices, its cold entries, the hot rows that bear it

@@ -27,8 +27,7 @@ use Rattle.versions.proofs.Versions.{writes-of}
 use Rattle.versions.proofs.Closing.{stamp-version, rel-commit, tidy-commit}
 use Rattle.cells.proofs.Horizons.{horizon-low, horizon-close}
 use Rattle.cells.proofs.Maps.{option-map, map-each, map-one-if, map-cond, kept-map, first-map}
-use Rattle.cells.proofs.Cells.{Cell, Pending, Quiet-end, c-empty, c-plain, c-idle, c-chosen, c-copied, c-begun, c-ended, c-both, c-emptied}
-use Rattle.cells.proofs.Cells.{mover, hot-version, cold-version, hot-part, cold-part, versions, entry-version, kind-version, Whole}
+use Rattle.cells.proofs.Cells.{Cell, Pending, Quiet-end, c-empty, c-plain, c-idle, c-chosen, c-copied, c-begun, c-ended, c-both, c-emptied, mover, hot-version, cold-version, hot-part, cold-part, versions, entry-version, kind-version, Whole}
 use Rattle.cells.proofs.Sessions.{shut, shut-agree, shut-many, shut-early, shut-reads}
 
 -- an end that is quiet has no mark, so the stamp leaves it

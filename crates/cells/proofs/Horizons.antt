@@ -1,10 +1,10 @@
 -- The horizon is the greatest number that is below the clock and below every read time of an open session, since no
 -- session reads past the clock.
-use Prim.Native.Nat.{ℕ, zero, suc, _≤_, min}
-use mathlib.Core.Path.{_≡_, refl, ap, sym, _∙_, subst}
+use Prim.Native.Nat.{ℕ, zero, suc, _≤_}
+use mathlib.Core.Path.{_≡_, subst}
 use mathlib.Core.List.{List, [], _∷_}
 use native.Mathlib.Omega.{arith}
-use lib.ListN.{length, getD, set, replicate}
+use lib.ListN.{set, replicate}
 use Rattle.std.specs.shelf.Lists.{All}
 use Rattle.std.proofs.shelf.Elements.{all-set, all-weaker}
 use Rattle.std.specs.declared.option.Option.{Option}

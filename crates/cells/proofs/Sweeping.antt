@@ -32,8 +32,7 @@ use Rattle.versions.specs.History.{History}
 use Rattle.versions.proofs.Versions.{Version, Shaped, v-shaped}
 use Rattle.versions.proofs.Quiet.{Fewer, none, sunk, rel-fewer}
 use Rattle.cells.proofs.Horizons.{horizon-start}
-use Rattle.cells.proofs.Cells.{Cell, Quiet-end, mover, hot-part, cold-version, cold-part, kind-version, entry-version, Whole}
-use Rattle.cells.proofs.Cells.{c-empty, c-plain, c-idle, c-chosen, c-copied, c-begun, c-ended, c-both, c-emptied}
+use Rattle.cells.proofs.Cells.{Cell, Quiet-end, mover, hot-part, cold-version, cold-part, kind-version, entry-version, Whole, c-empty, c-plain, c-idle, c-chosen, c-copied, c-begun, c-ended, c-both, c-emptied}
 use Rattle.cells.proofs.Calm.{fewer-all, fewer-append, dead-row}
 use Rattle.cells.proofs.Shapes.{same-pair, pair-self, cell-eq, few-notes, none-and-one}
 use Rattle.cells.proofs.OneCell.{Same-elsewhere, only-one, edit-here, edit-elsewhere, nothing-inside, sound-but, whole-with}

@@ -1,11 +1,10 @@
-use Prim.Native.Nat.{ℕ, zero, suc, _+_, _-_, _*_, _<_, _≤_, min}
+use Prim.Native.Nat.{ℕ, _+_, _-_, _≤_}
 use mathlib.Core.Path.{_≡_, refl, ap, sym, _∙_, subst}
-use mathlib.Core.Bool.{Bool, true, false, cond, not, _&&_, _||_}
-use mathlib.Core.List.{List, [], _∷_, _++_, map, append-assoc, append-nil}
-use mathlib.Core.Logic.{_⊎_, inl, inr}
+use mathlib.Core.Bool.{Bool, true, false, cond, _&&_, _||_}
+use mathlib.Core.List.{List, [], _∷_, _++_}
+use mathlib.Core.Logic.{inl, inr}
 use native.Mathlib.Omega.{arith}
-use lib.Dec.{eqb, leb, ltb}
-use lib.ListN.{length, getD, set, take, replicate, length-append}
+use lib.Dec.{eqb, ltb}
 use Rattle.std.specs.shelf.Lists.{All}
 use Rattle.std.proofs.shelf.Ways.{tells}
 use Rattle.std.specs.declared.option.Option.{Option}
@@ -25,16 +24,15 @@ use Rattle.rules.specs.Stores.{Store, horizon-of}
 use Rattle.rules.specs.Times.{begin-marked, end-marked, begin-above, end-above, foreign-begin, foreign-end}
 use Rattle.slots.specs.Lists.{any, kept, one, each, one-if}
 use Rattle.versions.specs.History.{History, turn-read}
-use Rattle.slots.proofs.Folds.{any-append, any-same, none-all, all-none, any-map, all-both, all-then, all-every, all-front, all-back, all-join, each-append, each-same, each-map, each-each, kept-append, each-kept, all-each}
-use Rattle.versions.proofs.Versions.{Version, v-shaped, v-above, v-begun, v-ended, Rel, Tidy, writes-of, wrote-above}
-use Rattle.versions.proofs.Closing.{NoMark, OnlyV, no-mark, has-mark, all-swap-∀}
-use Rattle.slots.proofs.Folds.{Spot, spot, first-none, first-some}
-use Rattle.slots.proofs.Edits.{kept-it, kept-passes, first-of-one}
+use Rattle.slots.proofs.Folds.{none-all, all-none, all-both, all-then, all-every, all-front, all-back, all-join, all-each, Spot, spot, first-some}
+use Rattle.versions.proofs.Versions.{Version, v-above, v-begun, v-ended, writes-of, wrote-above}
+use Rattle.versions.proofs.Closing.{OnlyV, no-mark, has-mark, all-swap-∀}
+use Rattle.slots.proofs.Edits.{kept-it, first-of-one}
 use Rattle.versions.proofs.Writing.{v-foreign, no-other, none-since}
 use Rattle.cells.proofs.Conflicts.{no-conflict}
 use Rattle.cells.proofs.Walking.{found-all}
-use Rattle.cells.proofs.Cells.{Cell, Pending, Quiet-end, mover, hot-version, cold-version, hot-part, cold-part, versions, entry-version, kind-version, Sound, Agree, Whole, c-empty, c-plain, c-idle, c-chosen, c-copied, c-begun, c-ended, c-both, c-emptied}
-use Rattle.cells.proofs.Splitting.{Split, split}
+use Rattle.cells.proofs.Cells.{Cell, Quiet-end, mover, hot-version, cold-version, hot-part, versions, entry-version, kind-version, Whole, c-empty, c-plain, c-idle, c-chosen, c-copied, c-begun, c-ended, c-both, c-emptied}
+use Rattle.cells.proofs.Splitting.{split}
 use Rattle.cells.proofs.Shapes.{few-notes}
 
 or-open : (x y : Bool) → (x || y) ≡ false → (x || false) ≡ false

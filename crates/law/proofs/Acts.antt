@@ -1,14 +1,13 @@
 -- A session's own puts and drops, replayed on a table that shows a key as the session saw it at its read time, leave of
 -- that key what the session sees.
-use Prim.Native.Nat.{ℕ, _+_, _≤_, _<_}
+use Prim.Native.Nat.{ℕ, _+_, _≤_}
 use mathlib.Core.Path.{_≡_, refl, ap, sym, _∙_, subst}
 use mathlib.Core.Bool.{Bool, true, false, cond, _&&_}
 use mathlib.Core.List.{List, [], _∷_}
-use mathlib.Core.Logic.{_⊎_, inl, inr}
 use native.Mathlib.Omega.{arith}
-use lib.Dec.{eqb, leb}
+use lib.Dec.{eqb}
 use Rattle.std.specs.Options.{isSome}
-use Rattle.std.proofs.shelf.Tests.{cases-bool, eqb-true, eq-eqb, ne-eqb, lt-leb, or-parts}
+use Rattle.std.proofs.shelf.Tests.{eqb-true, eq-eqb, ne-eqb, lt-leb, or-parts}
 use Rattle.std.specs.declared.option.Option.{Option}
 use Rattle.std.specs.declared.option.Option.the-variants.{Some, None}
 use Rattle.rules.specs.declared.sheet.Mode.{Mode}
@@ -24,7 +23,7 @@ use Rattle.versions.specs.History.{Commit, Turn, History, shown, turn-writes, t
 use Rattle.law.specs.Runs.{Event}
 use Rattle.law.specs.Single.{Table}
 use Rattle.law.specs.Episodes.{closes-by, commit-closes, own-act, own-acts}
-use Rattle.law.proofs.Past.{by-served, Answered, Begin-fact, Commit-fact, Fact, Facts, feeds, Past, past-step, by-answer}
+use Rattle.law.proofs.Past.{Begin-fact, Commit-fact, Fact, Facts, feeds, Past, past-step, by-answer}
 
 false-true : {A : Type 0} → true ≡ false → A
 false-true e = absurd (let z : _≡_ {A = ℕ} 0 1 = cc in omega arith)

@@ -15,7 +15,7 @@ use Rattle.cells.proofs.Beginning.{whole-opened}
 use Rattle.law.specs.Runs.{Event, Step, Runs, at-opening, by-seller}
 use Rattle.law.specs.Law.{Alike, seller-events, calls, answers, cramped}
 use Rattle.law.proofs.Steps.{step-ok}
-use Rattle.law.proofs.Twins.{Same-ledger, Twins}
+use Rattle.law.proofs.Twins.{all-said, Same-ledger, Twins}
 use Rattle.law.proofs.SameAnswers.{step-both}
 use Rattle.law.proofs.MovesAside.{ledger-stays, history-stays}
 
@@ -50,7 +50,8 @@ module _ {K R : Type 0} (number : K → ℕ) where
             )
         | inr moves ↦
             let whole : Whole number (r .0) T = rw (history-stays number T (ev .call) (ev .answer) moves) at stepped in
-            let stays = ledger-stays number σ (ev .call) (ev .answer) (r .0) moves (r .1) in
+            let left = ledger-stays number σ (ev .call) (ev .answer) (r .0) moves (r .1) in
+            let stays : Same-ledger number (r .0) σ = (left .0, ap (all-said number) (left .1)) in
             rw moves (sales es start (r .0) τ T whole (stays .0 ∙ l .0, stays .1 ∙ l .1) (r .2))
       ]
 

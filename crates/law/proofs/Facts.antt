@@ -1,10 +1,10 @@
 -- What the answers of a run tell of the history: a begin is served to a session that is not open, and a commit that is served
 -- answers 0 where the session wrote nothing, else the next stamp.
-use Prim.Native.Nat.{ℕ, _+_, _<_, _≤_}
-use mathlib.Core.Path.{_≡_, refl, ap, sym, _∙_, subst}
-use mathlib.Core.Bool.{Bool, true, false, cond, not}
+use Prim.Native.Nat.{ℕ, _+_}
+use mathlib.Core.Path.{_≡_, refl, ap, subst}
+use mathlib.Core.Bool.{false, not}
 use mathlib.Core.List.{List, [], _∷_, _++_}
-use mathlib.Core.Logic.{_⊎_, inl, inr}
+use mathlib.Core.Logic.{inl, inr}
 use lib.Dec.{leb, ltb}
 use Rattle.std.proofs.shelf.Tests.{cond-both, not-true}
 use Rattle.std.specs.declared.option.Option.{Option}
@@ -21,10 +21,10 @@ use Rattle.rules.specs.Outcomes.{Outcome, served, refused, if-open}
 use Rattle.rules.specs.Selling.{begin-rule, commit-rule, has-marks, stale}
 use Rattle.versions.specs.History.{Turn, History, turn-writes, feed}
 use Rattle.cells.proofs.Cells.{Whole}
-use Rattle.cells.proofs.Sessions.{Reader, reader, closed-turn}
+use Rattle.cells.proofs.Sessions.{reader, closed-turn}
 use Rattle.cells.proofs.Telling.{marked-none}
 use Rattle.law.specs.Runs.{Event, Step, Runs}
-use Rattle.law.proofs.Past.{Answered, Begin-fact, Commit-fact, Fact, Facts, feeds}
+use Rattle.law.proofs.Past.{Begin-fact, Commit-fact, Fact, Facts, feeds}
 use Rattle.law.proofs.Steps.{lent-own, session-ok, step-ok}
 
 module _ {K R : Type 0} (number : K → ℕ) where

@@ -1,41 +1,32 @@
 -- A session's ledger lines stay until the session is closed.
-use Prim.Native.Nat.{ℕ, _+_, _<_, _≤_}
+use Prim.Native.Nat.{ℕ, _+_}
 use mathlib.Core.Path.{_≡_, refl, ap, sym, _∙_, subst}
 use mathlib.Core.Bool.{Bool, true, false, cond, not, _&&_, _||_}
 use mathlib.Core.List.{List, [], _∷_, _++_}
-use mathlib.Core.Logic.{_⊎_, inl, inr}
+use mathlib.Core.Logic.{inl, inr}
 use native.Mathlib.Omega.{arith}
 use lib.Dec.{eqb, leb, ltb}
 use Rattle.std.proofs.shelf.Tests.{cases-bool, cond-both, eqb-true, eq-eqb, ne-eqb, and-parts, or-parts}
 use Rattle.std.specs.declared.option.Option.{Option}
 use Rattle.std.specs.declared.option.Option.the-variants.{Some, None}
-use Rattle.std.specs.declared.result.Result.{Result}
-use Rattle.std.specs.declared.result.Result.the-variants.{Ok, Err}
-use Rattle.slots.specs.Lists.{any, first, kept, one}
+use Rattle.slots.specs.Lists.{any, kept, one}
 use Rattle.slots.proofs.Folds.{any-append}
-use Rattle.cold.specs.Cold.{put-answer}
-use Rattle.cold.specs.declared.store.ColdRefusal.{ColdRefusal}
-use Rattle.rules.specs.declared.tables.HotRow.{HotRow}
-use Rattle.rules.specs.declared.tables.Notice.{Notice}
-use Rattle.rules.specs.declared.tables.Kind.{Kind}
 use Rattle.rules.specs.declared.tables.Line.{Line}
 use Rattle.rules.specs.declared.sheet.Mode.{Mode}
 use Rattle.rules.specs.declared.sheet.Reading.{Reading}
-use Rattle.rules.specs.declared.notices.NoticeEvent.the-variants.{Empty}
 use Rattle.rules.specs.declared.answers.Refusal.the-variants as refusal
 use Rattle.rules.specs.declared.answers.Answer.{Answer}
 use Rattle.rules.specs.declared.answers.Answer.the-variants as answer
 use Rattle.rules.specs.declared.answers.Call.{Call}
 use Rattle.rules.specs.declared.answers.Call.the-variants as call
-use Rattle.rules.specs.Notices.{becomes}
-use Rattle.rules.specs.Stores.{Store, session-at, opened-at, with-session, with-finds, with-admits, hot-full, memo-full, ledger-full}
-use Rattle.rules.specs.Outcomes.{Outcome, served, refused, untold, if-open, if-served}
+use Rattle.rules.specs.Stores.{Store, session-at, opened-at, with-session, with-finds, hot-full, memo-full, ledger-full}
+use Rattle.rules.specs.Outcomes.{Outcome, served, refused, if-open}
 use Rattle.rules.specs.Looking.{Seen, hot-one, cold-one, nothing, conflict, looked}
-use Rattle.rules.specs.Selling.{begin-rule, read-rule, put-rule, drop-rule, commit-rule, abandon-rule, is-checked, line-for, line-stays, new-line, noted, hot-own, wants-notice, end-seen, has-marks, stale}
-use Rattle.rules.specs.Moving.{choose-rule, copy-rule, settle-rule, give-up-rule, sweep-rule, collect-rule, choose-row, copy-row, copy-put, settle-row, sweep-notice, sweep-kind, movable, row-chosen, row-copied, row-bears, unmoved, due}
-use Rattle.law.specs.Runs.{Event, Step, Runs}
-use Rattle.law.specs.Episodes.{closes-by, commit-closes}
+use Rattle.rules.specs.Selling.{begin-rule, read-rule, put-rule, drop-rule, commit-rule, abandon-rule, is-checked, line-for, line-stays, new-line, hot-own, wants-notice, end-seen, has-marks, stale}
+use Rattle.law.specs.Runs.{Event, Step, Runs, by-seller}
+use Rattle.law.specs.Episodes.{closes-by}
 use Rattle.law.proofs.Steps.{lent-own, session-ok}
+use Rattle.law.proofs.MovesAside.{ledger-stays}
 
 -- what passes stays where a filter keeps all that passes
 any-kept : {X : Type 0} (p q : X → Bool) (xs : List X) → ((x : X) → p x ≡ true → q x ≡ true) → any p xs ≡ true → any p (kept q xs) ≡ true
@@ -121,50 +112,10 @@ module _ {K R : Type 0} (number : K → ℕ) where
     abandon-line u = lent-own (Stays (call.Abandon u)) _ σ _ _
         (session-ok (Stays (call.Abandon u)) σ _ u _ (λ _. h) (λ _. h) (λ r l e c. closed-has u (not-closed u c)))
 
-    choose-line : (j : K) → Stays (call.Choose j) (choose-rule number (σ .lengths) σ j)
-    choose-line j = lent-own (Stays (call.Choose j)) _ σ _ _ (go (first (movable number (number j)) (σ .hot)))
-      where
-        go : (o : Option (HotRow K R)) → Stays (call.Choose j) (choose-row number σ j o)
-        go None = λ _. h
-        go (Some x) = cond-both (not (unmoved (x .mark))) _ _ (Stays (call.Choose j)) (λ _ _. h) (λ _.
-            cond-both (leb 4000000000 (σ .last-tag)) _ _ (Stays (call.Choose j)) (λ _ _. h) (λ _.
-            cond-both (memo-full σ) _ _ (Stays (call.Choose j)) (λ _ _. h) (λ _ _. h)))
-
-    copy-line : (tag : ℕ) (new : ℕ → Bool) → Stays (call.Copy tag) (copy-rule number (σ .lengths) σ tag new)
-    copy-line tag new = lent-own (Stays (call.Copy tag)) _ σ _ _ (go (first (row-chosen tag) (σ .hot)))
-      where
-        put : (x : HotRow K R) (z : Result (Unit {0}) ColdRefusal) → Stays (call.Copy tag) (copy-put number (with-admits σ new) tag x z)
-        put x (Ok v) = λ _. h
-        put x (Err v) = λ _. h
-
-        go : (o : Option (HotRow K R)) → Stays (call.Copy tag) (copy-row number σ tag new o)
-        go None = λ _. h
-        go (Some x) = put x (put-answer (σ .limit) (σ .cold) (number (x .key)) tag)
-
-    settle-line : (tag : ℕ) → Stays (call.Settle tag) (settle-rule number (σ .lengths) σ tag)
-    settle-line tag = lent-own (Stays (call.Settle tag)) _ σ _ _ (go (first (row-copied tag) (σ .hot)))
-      where
-        go : (o : Option (HotRow K R)) → Stays (call.Settle tag) (settle-row number σ tag o)
-        go None = λ _. h
-        go (Some x) = λ _. h
-
-    give-up-line : (tag : ℕ) → Stays (call.GiveUp tag) (give-up-rule (σ .lengths) σ tag)
-    give-up-line tag = lent-own (Stays (call.GiveUp tag)) _ σ _ _
-        (cond-both (any (row-bears tag) (σ .hot)) _ _ (Stays (call.GiveUp tag)) (λ _ _. h) (λ _ _. h))
-
-    sweep-line : Stays call.Sweep (sweep-rule number (σ .lengths) σ)
-    sweep-line = lent-own (Stays call.Sweep) _ σ _ _ (go (first (due σ) (σ .memo)))
-      where
-        kind : (n : Notice K) (o : Option Kind) → Stays call.Sweep (sweep-kind number σ n o)
-        kind n None = λ _. h
-        kind n (Some x) = λ _. h
-
-        go : (o : Option (Notice K)) → Stays call.Sweep (sweep-notice number σ o)
-        go None = λ _. h
-        go (Some n) = kind n (becomes (n .kind) Empty)
-
-    collect-line : Stays call.Collect (collect-rule (σ .lengths) σ)
-    collect-line = lent-own (Stays call.Collect) _ σ _ _ (λ _. h)
+  -- calls of movers leave the ledger
+  move-line : (σ ρ : Store K R) (s k : ℕ) (c : Call K R) (a : Answer R) → by-seller c ≡ false
+      → any (line-for number s k) (σ .ledger) ≡ true → Step number σ c a ρ → any (line-for number s k) (ρ .ledger) ≡ true
+  move-line σ ρ s k c a moves h e = ap (any (line-for number s k)) (ledger-stays number σ c a ρ moves e .1) ∙ h
 
   step-line : (σ ρ : Store K R) (s k : ℕ) (c : Call K R) (a : Answer R) → any (line-for number s k) (σ .ledger) ≡ true
       → Step number σ c a ρ → closes-by s c a ≡ false → any (line-for number s k) (ρ .ledger) ≡ true
@@ -174,12 +125,12 @@ module _ {K R : Type 0} (number : K → ℕ) where
   step-line σ ρ s k (call.Drop u j) a h e = subst (Stays σ s k h (call.Drop u j)) e (drop-line σ s k h u j)
   step-line σ ρ s k (call.Commit u) a h e = subst (Stays σ s k h (call.Commit u)) e (commit-line σ s k h u)
   step-line σ ρ s k (call.Abandon u) a h e = subst (Stays σ s k h (call.Abandon u)) e (abandon-line σ s k h u)
-  step-line σ ρ s k (call.Choose j) a h e = subst (Stays σ s k h (call.Choose j)) e (choose-line σ s k h j)
-  step-line σ ρ s k (call.Copy t) a h e = subst (Stays σ s k h (call.Copy t)) (e .2) (copy-line σ s k h t (e .0))
-  step-line σ ρ s k (call.Settle t) a h e = subst (Stays σ s k h (call.Settle t)) e (settle-line σ s k h t)
-  step-line σ ρ s k (call.GiveUp t) a h e = subst (Stays σ s k h (call.GiveUp t)) e (give-up-line σ s k h t)
-  step-line σ ρ s k call.Sweep a h e = subst (Stays σ s k h call.Sweep) e (sweep-line σ s k h)
-  step-line σ ρ s k call.Collect a h e = subst (Stays σ s k h call.Collect) e (collect-line σ s k h)
+  step-line σ ρ s k (call.Choose j) a h e = λ _. move-line σ ρ s k (call.Choose j) a refl h e
+  step-line σ ρ s k (call.Copy t) a h e = λ _. move-line σ ρ s k (call.Copy t) a refl h e
+  step-line σ ρ s k (call.Settle t) a h e = λ _. move-line σ ρ s k (call.Settle t) a refl h e
+  step-line σ ρ s k (call.GiveUp t) a h e = λ _. move-line σ ρ s k (call.GiveUp t) a refl h e
+  step-line σ ρ s k call.Sweep a h e = λ _. move-line σ ρ s k call.Sweep a refl h e
+  step-line σ ρ s k call.Collect a h e = λ _. move-line σ ρ s k call.Collect a refl h e
 
   -- over a whole run
   pub runs-line : (es : List (Event K R)) (σ τ : Store K R) (s k : ℕ) → any (line-for number s k) (σ .ledger) ≡ true

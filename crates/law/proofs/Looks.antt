@@ -1,21 +1,21 @@
 -- What the answers of a checked session tell: a read or drop, of the history at its read time and of its ledger lines; a commit,
 -- that no key of its lines was written since.
-use Prim.Native.Nat.{ℕ, _+_, _<_, _≤_}
+use Prim.Native.Nat.{ℕ, _+_}
 use mathlib.Core.Path.{_≡_, refl, ap, sym, _∙_, subst}
 use mathlib.Core.Bool.{Bool, true, false, cond, not, _&&_, _||_}
-use mathlib.Core.List.{List, [], _∷_, _++_}
+use mathlib.Core.List.{List, _++_}
 use mathlib.Core.Logic.{_⊎_, inl, inr}
 use native.Mathlib.Omega.{arith}
-use lib.Dec.{eqb, leb, ltb}
+use lib.Dec.{eqb, leb}
 use Rattle.std.specs.Options.{isSome}
-use Rattle.std.proofs.shelf.Tests.{cases-bool, cond-both, eqb-true, eq-eqb, and-parts, not-true, not-false}
+use Rattle.std.proofs.shelf.Tests.{cond-both, eqb-true, eq-eqb, and-parts}
 use Rattle.std.specs.declared.option.Option.{Option}
-use Rattle.std.specs.declared.option.Option.the-variants.{Some, None}
-use Rattle.slots.specs.Lists.{any, first, one}
+use Rattle.std.specs.declared.option.Option.the-variants.{Some}
+use Rattle.slots.specs.Lists.{any, one}
 use Rattle.slots.proofs.Folds.{any-append, none-all, first-some, spot}
 use Rattle.rules.specs.declared.tables.Line.{Line}
 use Rattle.rules.specs.declared.sheet.Mode.{Mode}
-use Rattle.rules.specs.declared.sheet.Mode.the-variants.{Plain, Checked}
+use Rattle.rules.specs.declared.sheet.Mode.the-variants.{Checked}
 use Rattle.rules.specs.declared.sheet.Reading.{Reading}
 use Rattle.rules.specs.declared.answers.Refusal.{Refusal}
 use Rattle.rules.specs.declared.answers.Answer.{Answer}
@@ -28,7 +28,7 @@ use Rattle.versions.specs.Writes.{over}
 use Rattle.versions.specs.History.{Turn, History, shown, turn-writes, turn-read}
 use Rattle.versions.proofs.Versions.{wrote-above}
 use Rattle.cells.proofs.Cells.{Whole, Agree}
-use Rattle.cells.proofs.Sessions.{Reader, reader, read-time}
+use Rattle.cells.proofs.Sessions.{reader, read-time}
 use Rattle.cells.proofs.Looking.{lookup-is}
 use Rattle.cells.proofs.Walking.{found-all}
 use Rattle.cells.proofs.Writes.{may-write}

@@ -25,13 +25,12 @@ use Rattle.rules.specs.Moving.{choose-row, copy-row, copy-put, settle-row, swee
 use Rattle.versions.specs.History.{History, feed}
 use Rattle.law.specs.Runs.{Step, by-seller}
 use Rattle.law.proofs.Steps.{lent-own}
-use Rattle.law.proofs.Twins.{Same-ledger}
 
 module _ {K R : Type 0} (number : K → ℕ) where
   module _ (σ : Store K R) where
     -- the store after has the ledger of σ
     abbrev Leaves : Outcome K R → Type 0
-    Leaves z = Same-ledger number (z .after) σ
+    Leaves z = (z .after .lengths .lines ≡ σ .lengths .lines) × (z .after .ledger ≡ σ .ledger)
 
     choose-leaves : (k : K) (o : Option (HotRow K R)) → Leaves (choose-row number σ k o)
     choose-leaves k None = (refl, refl)
@@ -60,7 +59,8 @@ module _ {K R : Type 0} (number : K → ℕ) where
         go None = (refl, refl)
         go (Some kind) = (refl, refl)
 
-    pub ledger-stays : (c : Call K R) (a : Answer R) (ρ : Store K R) → by-seller c ≡ false → Step number σ c a ρ → Same-ledger number ρ σ
+    pub ledger-stays : (c : Call K R) (a : Answer R) (ρ : Store K R) → by-seller c ≡ false → Step number σ c a ρ
+        → (ρ .lengths .lines ≡ σ .lengths .lines) × (ρ .ledger ≡ σ .ledger)
     ledger-stays (call.Begin s m) a ρ h e = absurd (true≢false h)
     ledger-stays (call.Read s k) a ρ h e = absurd (true≢false h)
     ledger-stays (call.Put s k r) a ρ h e = absurd (true≢false h)

@@ -1,15 +1,14 @@
 -- The single table of the statements against the history of the proofs: two accounts of the same seller calls.
-use Prim.Native.Nat.{ℕ, _+_, _≤_, _<_}
-use mathlib.Core.Path.{_≡_, refl, ap, sym, _∙_, subst}
+use Prim.Native.Nat.{ℕ, _+_, _≤_}
+use mathlib.Core.Path.{_≡_, refl, subst}
 use mathlib.Core.Bool.{Bool, true, false, cond}
 use mathlib.Core.List.{List, [], _∷_}
 use mathlib.Core.Logic.{_⊎_, inl, inr}
 use native.Mathlib.Omega.{arith}
-use lib.Dec.{eqb, leb}
-use Rattle.std.specs.Options.{isSome}
+use lib.Dec.{eqb}
 use Rattle.std.specs.shelf.Lists.{All}
 use Rattle.std.proofs.shelf.Elements.{all-weaker}
-use Rattle.std.proofs.shelf.Tests.{cases-bool, eqb-true, eq-eqb, ne-eqb, le-leb, lt-leb}
+use Rattle.std.proofs.shelf.Tests.{eqb-true, eq-eqb, ne-eqb, le-leb}
 use Rattle.std.specs.declared.option.Option.{Option}
 use Rattle.std.specs.declared.option.Option.the-variants.{Some, None}
 use Rattle.rules.specs.declared.sheet.Mode.{Mode}
@@ -19,10 +18,9 @@ use Rattle.rules.specs.declared.answers.Call.{Call}
 use Rattle.rules.specs.declared.answers.Call.the-variants as call
 use Rattle.rules.specs.Outcomes.{if-served}
 use Rattle.rules.specs.Refusals.{is-stale}
-use Rattle.versions.specs.Writes.{Writes, no-writes, over, upd}
-use Rattle.versions.specs.History.{Commit, Turn, History, shown, turn-writes, turn-read, with-turn, wrote, had, begins, puts, drops, closes, commits-at, feed, feed-commit, fresh}
+use Rattle.versions.specs.Writes.{no-writes, upd}
+use Rattle.versions.specs.History.{Commit, Turn, History, shown, with-turn, wrote, begins, closes, commits-at, feed, feed-commit, fresh}
 use Rattle.law.specs.Runs.{Event}
-use Rattle.law.specs.Single.{Single, Table, Visit, carry-out, with-visit, with-write, began, put-noted, drop-noted, committed, fed, all-fed, at-start}
 
 -- Served or not: what holds of both ways holds of the answer's way.
 pub by-served : {R X Y : Type 0} (P : X → Y → Type 0) (a : Answer R) {x y : X} {u v : Y}

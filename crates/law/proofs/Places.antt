@@ -1,17 +1,17 @@
 -- The writes of the sessions placed earlier, carried out in turn, leave what the history shows just before the place.
-use Prim.Native.Nat.{ℕ, _+_, _*_, _≤_, _<_}
+use Prim.Native.Nat.{ℕ, _+_, _*_, _<_}
 use mathlib.Core.Path.{_≡_, refl, ap, sym, _∙_, subst}
 use mathlib.Core.Bool.{Bool, true, false, cond}
 use mathlib.Core.List.{List, [], _∷_, _++_, append-assoc, append-nil}
-use mathlib.Core.Logic.{_⊎_, inl, inr}
+use mathlib.Core.Logic.{inl, inr}
 use native.Mathlib.Omega.{arith}
-use lib.Dec.{eqb, leb, ltb}
+use lib.Dec.{leb, ltb}
 use Rattle.std.specs.shelf.Lists.{All}
 use Rattle.std.proofs.shelf.Elements.{all-weaker, all-append, all-kept-by}
-use Rattle.std.proofs.shelf.Tests.{cases-bool, eq-eqb, ne-eqb, le-leb, lt-leb, lt-ltb, le-ltb}
+use Rattle.std.proofs.shelf.Tests.{ne-eqb, lt-leb}
 use Rattle.std.proofs.shelf.Ways.{tells}
 use Rattle.std.specs.declared.option.Option.{Option}
-use Rattle.std.specs.declared.option.Option.the-variants.{Some, None}
+use Rattle.std.specs.declared.option.Option.the-variants.{None}
 use Rattle.rules.specs.declared.answers.Answer.{Answer}
 use Rattle.rules.specs.declared.answers.Answer.the-variants as answer
 use Rattle.rules.specs.declared.answers.Call.{Call}
@@ -21,9 +21,9 @@ use Rattle.slots.specs.Lists.{kept, one}
 use Rattle.slots.proofs.Folds.{kept-append}
 use Rattle.slots.proofs.Edits.{kept-hit, kept-miss}
 use Rattle.versions.specs.Writes.{over}
-use Rattle.versions.specs.History.{Commit, Turn, History, shown, turn-writes, begins, closes, commits-at, feed, feed-commit, fresh}
+use Rattle.versions.specs.History.{Commit, History, shown, turn-writes, closes, commits-at, feed, feed-commit, fresh}
 use Rattle.law.specs.Runs.{Event}
-use Rattle.law.specs.Single.{Single, Table, no-rows, carry-out, fed, all-fed}
+use Rattle.law.specs.Single.{Single, Table, no-rows, carry-out, fed}
 use Rattle.law.specs.Episodes.{Placed, place, placed-commit, placed-by, placed, put-by-place, all-by-place, by-place, all-carried, earlier}
 use Rattle.law.proofs.Past.{by-served, Answered, Commit-fact, Fact, Facts, feeds, Past, past-step}
 use Rattle.law.proofs.Tables.{Visits, Same, same-step}

@@ -1,28 +1,24 @@
 -- Every served read and drop of a committed checked session answers as the single table does after the sessions placed
 -- earlier, then the session's own puts and drops before it.
-use Prim.Native.Nat.{ℕ, _+_, _*_, _<_, _≤_}
+use Prim.Native.Nat.{ℕ, _+_, _*_, _≤_}
 use mathlib.Core.Path.{_≡_, refl, ap, sym, _∙_, subst}
-use mathlib.Core.Bool.{Bool, true, false, cond, _&&_, _||_}
+use mathlib.Core.Bool.{Bool, true, false, cond}
 use mathlib.Core.List.{List, [], _∷_, _++_}
 use mathlib.Core.Logic.{_⊎_, inl, inr}
 use native.Mathlib.Omega.{arith}
-use lib.Dec.{eqb}
 use Rattle.std.specs.Options.{isSome}
 use Rattle.std.proofs.shelf.Tests.{eq-eqb, ne-eqb, or-parts}
 use Rattle.std.specs.declared.option.Option.{Option}
 use Rattle.std.specs.declared.option.Option.the-variants.{Some, None}
 use Rattle.slots.specs.Lists.{any}
 use Rattle.slots.proofs.Folds.{any-append}
-use Rattle.rules.specs.declared.sheet.Mode.{Mode}
 use Rattle.rules.specs.declared.sheet.Mode.the-variants.{Checked}
-use Rattle.rules.specs.declared.answers.Answer.{Answer}
 use Rattle.rules.specs.declared.answers.Answer.the-variants as answer
-use Rattle.rules.specs.declared.answers.Call.{Call}
 use Rattle.rules.specs.declared.answers.Call.the-variants as call
 use Rattle.rules.specs.Stores.{Store}
-use Rattle.rules.specs.Selling.{line-for, read-rule, drop-rule, commit-rule}
+use Rattle.rules.specs.Selling.{line-for, commit-rule}
 use Rattle.versions.specs.Writes.{no-writes, over}
-use Rattle.versions.specs.History.{Turn, History, shown, turn-writes, turn-read, begins, feed, fresh}
+use Rattle.versions.specs.History.{Turn, History, shown, turn-writes, turn-read, begins, fresh}
 use Rattle.versions.proofs.Versions.{wrote-above}
 use Rattle.cells.proofs.Cells.{Whole}
 use Rattle.cells.proofs.Beginning.{whole-opened}
@@ -32,7 +28,7 @@ use Rattle.law.specs.Episodes.{closes, begin-of, read-of, drop-of, commit-of, 
 use Rattle.law.specs.Law.{Serial, table-before, place-of}
 use Rattle.law.proofs.Past.{Past, Facts, feeds, past-fresh, past-step}
 use Rattle.law.proofs.Tables.{Same, same-start, same-all, past-all}
-use Rattle.law.proofs.Places.{shown-before, before-after, before-next, Placing, placing-fresh, placing-all}
+use Rattle.law.proofs.Places.{shown-before, before-after, before-next, placing-fresh, placing-all}
 use Rattle.law.proofs.Acts.{Working, act-all}
 use Rattle.law.proofs.Later.{Later, later-all, shown-still}
 use Rattle.law.proofs.Steps.{step-ok, runs-ok, runs-cut, feeds-cut}

@@ -1,48 +1,42 @@
 -- Every call of a run keeps the relation between the store and the history.
-use Prim.Native.Nat.{ℕ, _+_, _<_, _≤_}
-use mathlib.Core.Path.{_≡_, refl, ap, sym, _∙_, subst}
-use mathlib.Core.Bool.{Bool, true, false, cond, not, _&&_}
+use Prim.Native.Nat.{ℕ, _+_, _<_}
+use mathlib.Core.Path.{_≡_, refl, subst}
+use mathlib.Core.Bool.{Bool, true, not, _&&_}
 use mathlib.Core.List.{List, [], _∷_, _++_}
 use native.Mathlib.Omega.{arith}
-use lib.Dec.{eqb, leb, ltb}
+use lib.Dec.{leb, ltb}
 use Rattle.std.proofs.shelf.Tests.{cond-both, eq-eqb, ne-eqb, ltb-false, leb-false, not-true, not-false}
 use Rattle.std.specs.declared.option.Option.{Option}
 use Rattle.std.specs.declared.option.Option.the-variants.{Some, None}
 use Rattle.slots.specs.Lists.{any, first}
 use Rattle.slots.proofs.Folds.{first-some}
-use Rattle.cold.specs.Cold.{put-answer}
-use Rattle.cold.specs.declared.store.ColdRefusal.{ColdRefusal}
 use Rattle.rules.specs.declared.tables.HotRow.{HotRow}
 use Rattle.rules.specs.declared.tables.Notice.{Notice}
-use Rattle.rules.specs.declared.tables.Kind.{Kind}
 use Rattle.rules.specs.declared.sheet.Mode.{Mode}
 use Rattle.rules.specs.declared.sheet.Reading.{Reading}
-use Rattle.rules.specs.declared.notices.NoticeEvent.the-variants.{Empty}
 use Rattle.rules.specs.declared.answers.Side.{Side}
-use Rattle.rules.specs.declared.answers.Refusal.{Refusal}
 use Rattle.rules.specs.declared.answers.Refusal.the-variants as refusal
 use Rattle.rules.specs.declared.answers.Answer.{Answer}
 use Rattle.rules.specs.declared.answers.Answer.the-variants as answer
 use Rattle.rules.specs.declared.answers.Call.{Call}
 use Rattle.rules.specs.declared.answers.Call.the-variants as call
-use Rattle.rules.specs.Notices.{becomes}
-use Rattle.rules.specs.Stores.{Store, Lengths, same-lengths, session-at, opened-at, with-session, with-ledger, with-finds, with-admits, hot-full, memo-full, ledger-full}
+use Rattle.rules.specs.Stores.{Store, Lengths, same-lengths, session-at, opened-at, with-session, hot-full, memo-full, ledger-full}
 use Rattle.rules.specs.Outcomes.{Outcome, served, refused, untold, if-open, if-lent, for-session}
 use Rattle.rules.specs.Looking.{conflict, looked}
-use Rattle.rules.specs.Selling.{begin-rule, read-rule, put-rule, drop-rule, commit-rule, abandon-rule, new-line, noted, hot-own, wants-notice, put-seen, drop-seen, has-marks, stale, close, undone, stamped}
-use Rattle.rules.specs.Moving.{choose-rule, copy-rule, settle-rule, give-up-rule, sweep-rule, collect-rule, choose-row, copy-row, copy-put, settle-row, sweep-notice, sweep-kind, movable, row-chosen, row-copied, row-bears, unmoved, due}
+use Rattle.rules.specs.Selling.{begin-rule, read-rule, put-rule, drop-rule, commit-rule, abandon-rule, new-line, hot-own, wants-notice, has-marks, stale}
+use Rattle.rules.specs.Moving.{choose-rule, copy-rule, settle-rule, give-up-rule, sweep-rule, collect-rule, choose-row, copy-row, settle-row, sweep-notice, movable, row-chosen, row-copied, row-bears, unmoved, due}
 use Rattle.versions.specs.History.{History, feed}
 use Rattle.cells.proofs.Cells.{Whole}
 use Rattle.cells.proofs.Calm.{whole-collect, whole-give-up}
 use Rattle.cells.proofs.Choosing.{whole-choose}
-use Rattle.cells.proofs.Copying.{whole-admits, whole-copy}
+use Rattle.cells.proofs.Copying.{whole-copy}
 use Rattle.cells.proofs.Settling.{whole-settle}
 use Rattle.cells.proofs.Sweeping.{whole-sweep}
 use Rattle.cells.proofs.Beginning.{whole-ledger, whole-finds, whole-begin}
 use Rattle.cells.proofs.Committing.{whole-commit}
 use Rattle.cells.proofs.Abandoning.{whole-abandon, whole-unmarked}
 use Rattle.cells.proofs.Putting.{whole-replace-own, whole-drop-own, whole-put, whole-drop}
-use Rattle.law.specs.Runs.{Event, Grown, answering, Step, Runs}
+use Rattle.law.specs.Runs.{Event, Grown, Step, Runs}
 use Rattle.law.proofs.Past.{feeds}
 
 pub same-lengths-self : (l : Lengths) → same-lengths l l ≡ true

@@ -1,14 +1,13 @@
 -- The single table is what the history shows at its clock, and what it keeps of an open session is the session's turn.
-use Prim.Native.Nat.{ℕ, _+_, _≤_, _<_}
+use Prim.Native.Nat.{ℕ, _+_, _≤_}
 use mathlib.Core.Path.{_≡_, refl, ap, sym, _∙_, subst}
 use mathlib.Core.Bool.{Bool, true, false, cond}
 use mathlib.Core.List.{List, [], _∷_}
-use mathlib.Core.Logic.{_⊎_, inl, inr}
+use mathlib.Core.Logic.{inl, inr}
 use native.Mathlib.Omega.{arith}
-use lib.Dec.{eqb, leb}
+use lib.Dec.{eqb}
 use Rattle.std.specs.Options.{isSome}
-use Rattle.std.specs.shelf.Lists.{All}
-use Rattle.std.proofs.shelf.Tests.{eqb-true, eq-eqb, ne-eqb, le-leb, lt-leb}
+use Rattle.std.proofs.shelf.Tests.{ne-eqb, le-leb, lt-leb}
 use Rattle.std.specs.declared.option.Option.{Option}
 use Rattle.std.specs.declared.option.Option.the-variants.{Some, None}
 use Rattle.rules.specs.declared.sheet.Mode.{Mode}
@@ -17,11 +16,11 @@ use Rattle.rules.specs.declared.answers.Answer.the-variants as answer
 use Rattle.rules.specs.declared.answers.Call.{Call}
 use Rattle.rules.specs.declared.answers.Call.the-variants as call
 use Rattle.rules.specs.Refusals.{is-stale}
-use Rattle.versions.specs.Writes.{Writes, no-writes, over, upd}
+use Rattle.versions.specs.Writes.{no-writes, over, upd}
 use Rattle.versions.specs.History.{Commit, Turn, History, shown, turn-writes, turn-read, with-turn, wrote, had, begins, closes, commits-at, feed, feed-commit, fresh}
 use Rattle.law.specs.Runs.{Event}
-use Rattle.law.specs.Single.{Single, Visit, with-visit, with-write, began, committed, fed, all-fed, at-start}
-use Rattle.law.proofs.Past.{by-served, upd-at, Answered, Commit-fact, Fact, Facts, feeds, Past, past-step, shown-past}
+use Rattle.law.specs.Single.{Single, Visit, with-write, began, committed, fed, all-fed, at-start}
+use Rattle.law.proofs.Past.{by-served, Answered, Commit-fact, Fact, Facts, feeds, Past, past-step, shown-past}
 
 module _ {R : Type 0} where
   -- what is kept of a session that is open

@@ -18,8 +18,8 @@ use Rattle.rules.specs.declared.answers.Call.the-variants as call
 use Rattle.rules.specs.Stores.{Store, closed, session-at}
 use Rattle.rules.specs.Moving.{unmoved}
 use Rattle.law.specs.Runs.{Event, Runs, Opening, Served, at-opening, by-seller}
-use Rattle.law.specs.Single.{Single, Table, no-rows, all-fed, at-start}
-use Rattle.law.specs.Episodes.{Committed, place, placed, earlier, by-place, all-carried, own-acts, read-of, drop-of, begin-of}
+use Rattle.law.specs.Single.{Table, no-rows, all-fed, at-start}
+use Rattle.law.specs.Episodes.{Committed, place, placed, earlier, by-place, all-carried, own-acts, read-of, drop-of}
 
 module _ {K R : Type 0} where
   -- the events of sellers, in their order

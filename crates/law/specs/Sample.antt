@@ -1,9 +1,9 @@
 -- A run written out: two sessions, a move that is overtaken half way, a commit refused as stale, and the sweeps that clear up.
 -- Keys and rows are plain numbers.
 use Prim.Native.Nat.{ℕ}
-use mathlib.Core.Bool.{Bool, false}
+use mathlib.Core.Bool.{false}
 use mathlib.Core.List.{List, [], _∷_}
-use Rattle.std.specs.declared.option.Option.the-variants.{Some, None}
+use Rattle.std.specs.declared.option.Option.the-variants.{Some}
 use Rattle.rules.specs.declared.sheet.Mode.the-variants.{Plain, Checked}
 use Rattle.rules.specs.declared.answers.Swept.the-variants.{Gone, Emptied}
 use Rattle.rules.specs.declared.answers.Refusal.the-variants as refusal

@@ -1,6 +1,6 @@
 -- The single table: one plain table, fed the opening's clock, each call, whether it was served, and what a commit answered.
 use Prim.Native.Nat.{ℕ}
-use mathlib.Core.Bool.{Bool, true, false, cond}
+use mathlib.Core.Bool.{Bool, false, cond}
 use mathlib.Core.List.{List, [], _∷_}
 use lib.Dec.{eqb}
 use Rattle.std.specs.Options.{isSome}

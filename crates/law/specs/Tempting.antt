@@ -1,12 +1,11 @@
 -- Three errors that tempt, each as a changed step in a run, and what it does to a seller. Keys and rows are plain numbers.
 use Prim.Native.Nat.{ℕ}
-use mathlib.Core.Path.{_≡_}
-use mathlib.Core.Bool.{Bool, true, cond}
+use mathlib.Core.Bool.{true, cond}
 use mathlib.Core.List.{List, [], _∷_, _++_}
 use Rattle.std.specs.Options.{isSome}
 use Rattle.std.specs.declared.option.Option.{Option}
 use Rattle.std.specs.declared.option.Option.the-variants.{Some, None}
-use Rattle.slots.specs.Lists.{at-first, one}
+use Rattle.slots.specs.Lists.{at-first}
 use Rattle.cold.specs.Cold.{put-after}
 use Rattle.rules.specs.declared.sheet.Mode.the-variants.{Plain, Checked}
 use Rattle.rules.specs.declared.answers.Swept.the-variants.{Gone, Emptied}

@@ -10,7 +10,6 @@ use Rattle.rules.specs.declared.tables.End.the-variants as e
 use Rattle.rules.specs.declared.tables.MoveMark.the-variants.{Unmoved}
 use Rattle.rules.specs.declared.tables.HotRow.{HotRow}
 use Rattle.rules.specs.declared.tables.Kind.the-variants.{B, E, BE}
-use Rattle.rules.specs.declared.tables.Notice.{Notice}
 use Rattle.rules.specs.declared.tables.Line.{Line}
 use Rattle.rules.specs.declared.sheet.Mode.{Mode}
 use Rattle.rules.specs.declared.sheet.Mode.the-variants.{Plain, Checked}
@@ -23,7 +22,6 @@ use Rattle.rules.specs.Notices.{kind-sees, due-kind}
 use Rattle.rules.specs.Refusals.{number-of}
 use Rattle.rules.specs.Horizon.{horizon}
 use Rattle.rules.specs.Stores.{Store, closed, opened-at}
-use Rattle.rules.specs.Outcomes.{Outcome}
 use Rattle.rules.specs.Selling.{put-rule, commit-rule}
 use Rattle.rules.specs.Moving.{choose-rule, copy-rule}
 

@@ -4,14 +4,12 @@ use mathlib.Core.Bool.{Bool, _&&_}
 use mathlib.Core.List.{List}
 use lib.Dec.{eqb, leb}
 use lib.ListN.{length, take, getD, set}
-use Rattle.std.specs.declared.option.Option.{Option}
 use Rattle.std.specs.declared.option.Option.the-variants.{Some, None}
 use Rattle.cold.specs.Cold.{Entry}
 use Rattle.rules.specs.declared.tables.HotRow.{HotRow}
 use Rattle.rules.specs.declared.tables.Notice.{Notice}
 use Rattle.rules.specs.declared.tables.Line.{Line}
 use Rattle.rules.specs.declared.sheet.Mode.{Mode}
-use Rattle.rules.specs.declared.sheet.Reading.{Reading}
 use Rattle.rules.specs.declared.sheet.Session.{Session}
 use Rattle.rules.specs.declared.sheet.Sheet.{Sheet}
 use Rattle.rules.specs.Horizon.{horizon}

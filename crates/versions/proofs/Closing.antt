@@ -1,13 +1,12 @@
-use Prim.Native.Nat.{ℕ, _<_, _≤_, _+_, min}
-use mathlib.Core.Path.{_≡_, refl, ap, sym, _∙_, subst}
+use Prim.Native.Nat.{ℕ, _<_, _≤_, _+_}
+use mathlib.Core.Path.{_≡_, refl, ap, sym, _∙_}
 use mathlib.Core.Bool.{Bool, true, false, cond, not, _&&_, _||_}
-use mathlib.Core.List.{List, [], _∷_, _++_, map, append-assoc, append-nil}
-use mathlib.Core.Logic.{_⊎_, inl, inr}
+use mathlib.Core.List.{List, [], _∷_, map, append-nil}
+use mathlib.Core.Logic.{inl, inr}
 use native.Mathlib.Omega.{arith}
-use lib.Dec.{eqb, leb, ltb}
-use lib.ListN.{length, getD, set, length-append}
+use lib.Dec.{eqb}
 use Rattle.std.specs.shelf.Lists.{All}
-use Rattle.std.proofs.shelf.Tests.{cases-bool, cases-eq, cases-lt, eqb-true, eqb-false, leb-true, leb-false, ltb-true, ltb-false, eq-eqb, ne-eqb, le-leb, lt-leb, lt-ltb, le-ltb, and-parts, and-from}
+use Rattle.std.proofs.shelf.Tests.{cases-bool, cases-eq, cases-lt, eqb-true, eqb-false, le-leb, lt-leb, lt-ltb, le-ltb}
 use Rattle.std.proofs.shelf.Ways.{tells}
 use Rattle.std.specs.declared.option.Option.{Option}
 use Rattle.std.specs.declared.option.Option.the-variants.{Some, None}
@@ -15,13 +14,12 @@ use Rattle.rules.specs.declared.tables.Begin.{Begin}
 use Rattle.rules.specs.declared.tables.End.{End}
 use Rattle.rules.specs.declared.tables.Begin.the-variants as b
 use Rattle.rules.specs.declared.tables.End.the-variants as e
-use Rattle.rules.specs.Times.{sees, begun, ended, begin-marked, end-marked, begin-above, end-above}
-use Rattle.slots.specs.Lists.{first, any, at-first, kept, one, each, one-if, list-of}
+use Rattle.rules.specs.Times.{sees, begun, ended, begin-marked, end-marked, begin-above, end-above, stamp-begin, stamp-end, reopen}
+use Rattle.slots.specs.Lists.{any, kept, one, each, one-if, list-of}
 use Rattle.std.specs.Options.{isSome}
-use Rattle.slots.proofs.Folds.{any-append, any-same, none-all, all-none, any-map, all-both, all-then, all-every, all-front, all-back, all-join, each-append, each-same, each-map, each-each, kept-append, each-kept, any-each, all-each, any-unless}
-use Rattle.versions.specs.History.{Commit, Turn, shown, over, turn-writes, turn-read, upd, no-writes}
-use Rattle.versions.proofs.Versions.{Version, Shaped, pub-begun, pub-ended, v-pub, v-sees, v-begun, v-ended, v-above, v-shaped, rows, put-of, wrote-above, writes-of, had-at, Rel, Tidy, rows-append, rows-same, rows-none, all-rows}
-use Rattle.rules.specs.Times.{stamp-begin, stamp-end, reopen}
+use Rattle.slots.proofs.Folds.{any-same, none-all, all-none, any-map, all-both, all-then, all-every, each-same, each-map, each-each, any-each, all-each, any-unless}
+use Rattle.versions.specs.History.{Commit, Turn, shown, turn-writes, turn-read, upd}
+use Rattle.versions.proofs.Versions.{Version, Shaped, pub-begun, pub-ended, v-pub, v-sees, v-begun, v-ended, v-above, v-shaped, rows, put-of, wrote-above, writes-of, had-at, Rel, Tidy, rows-same, rows-none, all-rows}
 use Rattle.versions.proofs.Quiet.{SameAt, rel-same, tidy-same}
 use Rattle.std.proofs.shelf.Elements.{all-map}
 

@@ -1,7 +1,7 @@
 -- The history of a run: what the single table went through, kept with its past. It is a function of the seller calls and
 -- their answers alone. Proofs hold a store against it.
 use Prim.Native.Nat.{ℕ}
-use mathlib.Core.Bool.{Bool, true, false, cond}
+use mathlib.Core.Bool.{Bool, cond}
 use mathlib.Core.List.{List, [], _∷_}
 use lib.Dec.{eqb, leb}
 use Rattle.std.specs.Options.{isSome}
