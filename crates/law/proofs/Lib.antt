@@ -15,3 +15,4 @@ pub mod Serial
 pub mod Resting
 pub mod SweepsLeft
 pub mod Settled
+pub mod Theorem
