@@ -27,11 +27,11 @@ use Rattle.slots.specs.Lists.{any, kept, one, each}
 use Rattle.slots.proofs.Folds.{none-all, all-then, all-every, each-append, each-same, each-each}
 use Rattle.slots.proofs.Edits.{head, first-kept}
 use Rattle.versions.specs.History.{History, closes}
-use Rattle.versions.proofs.Versions.{writes-of}
-use Rattle.versions.proofs.Closing.{undo-version, rel-abandon, tidy-abandon}
+use Rattle.versions.proofs.Undoing.{undo-version, rel-abandon, tidy-abandon}
 use Rattle.cells.proofs.Horizons.{horizon-low, horizon-close}
 use Rattle.cells.proofs.Maps.{each-cond, each-id, kept-each, kept-unless, each-unless}
-use Rattle.cells.proofs.Cells.{Cell, Quiet-end, c-empty, c-plain, c-idle, c-chosen, c-copied, c-begun, c-ended, c-both, c-emptied, mover, hot-version, cold-version, hot-part, cold-part, versions, entry-version, Whole}
+use Rattle.cells.proofs.Cells.{Cell, Quiet-end, mover, hot-version, cold-version, hot-part, cold-part, versions, entry-version, Whole}
+use Rattle.cells.proofs.Cells.{c-empty, c-plain, c-idle, c-chosen, c-copied, c-begun, c-ended, c-both, c-emptied}
 use Rattle.cells.proofs.Rising.{quiet-rise}
 use Rattle.cells.proofs.Sessions.{shut, shut-agree, shut-many, shut-early, shut-reads}
 
@@ -165,11 +165,9 @@ module _ {K R : Type 0} (number : K → ℕ) where
           };
           rel = λ k.
               rw (undo-versions σ T w s k)
-              (rel-abandon (horizon-of σ) left (σ .clock) (T .commits) (T .turn) k s (versions number σ k)
-              (w .tidy k) (w .rel k) up (writes-of (T .turn) s k) refl);
+              (rel-abandon (w .tidy k) s (w .rel k) up);
           tidy = λ k.
-              tidy-abandon (horizon-of σ) left (σ .clock) (T .commits) (T .turn) k s (versions number σ k)
-              (w .tidy k) (w .rel k) up (writes-of (T .turn) s k) refl (horizon-low (σ .clock) _ early)
+              tidy-abandon (w .tidy k) s (horizon-low (σ .clock) _ early)
               (λ u v h ne. shut-reads number σ T w s within (σ .clock) k u v h ne);
         }
 

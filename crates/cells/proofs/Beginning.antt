@@ -17,13 +17,14 @@ use Rattle.rules.specs.declared.sheet.Session.{Session}
 use Rattle.rules.specs.declared.tables.Line.{Line}
 use Rattle.rules.specs.Horizon.{horizon}
 use Rattle.rules.specs.Opening.{within, in-range, opened}
-use Rattle.rules.specs.Stores.{Store, Lengths, closed, opened-at, session-at, with-ledger, with-session, with-finds, horizon-of}
+use Rattle.rules.specs.Stores.{Store, Lengths, closed, opened-at, session-at, with-ledger, with-session, with-finds}
 use Rattle.slots.specs.Lists.{any, kept, each}
 use Rattle.versions.specs.History.{History, turn-read, begins, fresh}
 use Rattle.versions.proofs.Versions.{writes-of}
-use Rattle.versions.proofs.Quiet.{SameAt, rel-same, tidy-same}
+use Rattle.versions.proofs.Closing.{tidy-unwritten, rel-unwritten}
+use Rattle.versions.proofs.Same.{SameAt, rel-same, tidy-same}
 use Rattle.cells.proofs.Horizons.{Early, horizon-low, horizon-read, horizon-open, early-closed}
-use Rattle.cells.proofs.Cells.{Agree, Whole, versions, c-empty}
+use Rattle.cells.proofs.Cells.{Agree, Whole, c-empty}
 use Rattle.cells.proofs.Rising.{cell-rise}
 use Rattle.cells.proofs.Sessions.{writer-open, closed-turn}
 
@@ -123,13 +124,9 @@ module _ {K R : Type 0} (number : K → ℕ) where
             unused = w .sound .unused;
             known = w .sound .known;
           };
-          rel = λ k.
-              rel-same (horizon-of σ) (horizon (σ .clock) next) (T .commits) (T .commits) (T .turn) (begins T s mode .turn) k
-              (versions number σ k) up (begin-same k) (w .rel k);
+          rel = λ k. rel-same (begin-same k) up (w .rel k);
           tidy = λ k.
-              tidy-same (horizon-of σ) (horizon (σ .clock) next) (σ .clock) (σ .clock) (T .commits) (T .commits)
-              (T .turn) (begins T s mode .turn) k (horizon-low (σ .clock) next early) (omega arith) (begin-reads k)
-              (w .tidy k .past) (begin-same k) (w .tidy k);
+              tidy-same (begin-same k) (horizon-low (σ .clock) next early) (omega arith) (begin-reads k) (w .tidy k .past) (w .tidy k);
         }
 
   -- nothing is there and nothing has happened
@@ -138,8 +135,6 @@ module _ {K R : Type 0} (number : K → ℕ) where
   unfolding kept each any
   whole-opened lengths clock last-tag limit admits h =
       let range = range-parts lengths clock last-tag h in
-      let never : (A : Type 0) (w : Option R) → _≡_ {A = Option (Option R)} None (Some w) → A =
-      λ A w p. absurd (let z : _≡_ {A = ℕ} 0 1 = cc in omega arith) in
       record {
         clock = refl;
         many = length-replicate 64 closed;
@@ -152,20 +147,6 @@ module _ {K R : Type 0} (number : K → ℕ) where
           unused = λ k tag lt. (refl, refl);
           known = λ k e. absurd (let z : _≡_ {A = ℕ} 0 1 = cc in omega arith);
         };
-        rel = λ k. record {
-          plain = λ t l. refl;
-          mine = λ s w p. never _ w p;
-          begun = λ s. refl;
-          ended = λ s. refl;
-          stamps = λ t l. refl;
-          shaped = tt;
-        };
-        tidy = λ k. record {
-          past = tt;
-          low = horizon-low clock (replicate 64 closed) (early-closed 64 clock);
-          lone = λ s r w x p. never _ w p;
-          newest = λ s w p. never _ w p;
-          dropped = λ s p. never _ None p;
-          reads = λ s w p. never _ w p;
-        };
+        rel = λ k. rel-unwritten (λ s. refl) (λ t l. refl) (λ s. refl) (λ s. refl) (λ t l. refl) tt;
+        tidy = λ k. tidy-unwritten (λ s. refl) tt (horizon-low clock (replicate 64 closed) (early-closed 64 clock));
       }

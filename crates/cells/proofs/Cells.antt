@@ -1,3 +1,6 @@
+-- What a store is held to. For each pair of a key number and a tag the notices, the cold entries and the hot rows on the
+-- move with that pair are in one of nine shapes, `Cell`. `versions` are the versions of a key that a store gives, and
+-- `Whole` joins the cells, the versions of every key, the sessions and the clock with the history of the run.
 use Prim.Native.Nat.{ℕ, _+_, _-_, _<_, _≤_}
 use mathlib.Core.Path.{_≡_}
 use mathlib.Core.Bool.{Bool, true, false, cond, _&&_}
@@ -26,30 +29,45 @@ use Rattle.versions.specs.History.{Turn, History}
 use Rattle.versions.proofs.Versions.{Version, Rel, Tidy}
 use Rattle.cells.proofs.Horizons.{Early}
 
--- the state of a key number and a tag: its notices, its cold entries, the hot rows that bear it
+-- an end that no reader above the horizon h tells from one that is past: open, or a stamp up to h
 abbrev pub Quiet-end : ℕ → End → Type 0
 Quiet-end h e.Open = Unit {0}
 Quiet-end h (e.Stamp n) = n ≤ h
 Quiet-end h (e.Mark s) = ⊥
 
+-- a notice that waits for its row to arrive: N, with the times of an entry that has no notice
 pub record Pending {K : Type 0} (n : Notice K) : Type 0 where
   pub kind : n .kind ≡ N
   pub begin : n .begin ≡ 1
   pub end : n .end ≡ e.Open
 
 module _ {K R : Type 0} where
+  -- the notices ns, the entries es and the rows on the move ms of a cell, h being the horizon
   pub data Cell (h : ℕ) (ns : List (Notice K)) (es : List (Entry R)) (ms : List (HotRow K R)) : Type 0 where
+    -- nothing, or an entry alone
     c-empty : ns ≡ [] → es ≡ [] → ms ≡ [] → Cell h ns es ms
     c-plain : (c : Entry R) → ns ≡ [] → es ≡ one c → ms ≡ [] → Cell h ns es ms
+    -- N with no row on the move; N with a chosen row; N with a copied row and its entry
     c-idle : (n : Notice K) → ns ≡ one n → Pending n → length es ≤ 1 → ms ≡ [] → Cell h ns es ms
-    c-chosen : (n : Notice K) (m : HotRow K R) (i : ℕ) → ns ≡ one n → Pending n → es ≡ [] → ms ≡ one m → (t : ℕ) → m .mark ≡ Chosen t → m .begin ≡ b.Stamp i → m .end ≡ e.Open → Cell h ns es ms
-    c-copied : (n : Notice K) (m : HotRow K R) (i : ℕ) (c : Entry R) → ns ≡ one n → Pending n → es ≡ one c → ms ≡ one m → (t : ℕ) → m .mark ≡ Copied t → m .begin ≡ b.Stamp i → m .end ≡ e.Open → c .row ≡ m .row → Cell h ns es ms
+    c-chosen : (n : Notice K) (m : HotRow K R) (i : ℕ) → ns ≡ one n → Pending n → es ≡ [] → ms ≡ one m
+        → (t : ℕ) → m .mark ≡ Chosen t → m .begin ≡ b.Stamp i → m .end ≡ e.Open → Cell h ns es ms
+    c-copied : (n : Notice K) (m : HotRow K R) (i : ℕ) (c : Entry R) → ns ≡ one n → Pending n → es ≡ one c → ms ≡ one m
+        → (t : ℕ) → m .mark ≡ Copied t → m .begin ≡ b.Stamp i → m .end ≡ e.Open → c .row ≡ m .row → Cell h ns es ms
+    -- B, E or BE with its entry
     c-begun : (n : Notice K) (c : Entry R) → ns ≡ one n → n .kind ≡ B → n .end ≡ e.Open → es ≡ one c → ms ≡ [] → Cell h ns es ms
-    c-ended : (n : Notice K) (c : Entry R) → ns ≡ one n → n .kind ≡ E → n .begin ≡ 1 → es ≡ one c → ms ≡ [] → open-end (n .end) ≡ false → Cell h ns es ms
-    c-both : (n : Notice K) (c : Entry R) → ns ≡ one n → n .kind ≡ BE → es ≡ one c → ms ≡ [] → open-end (n .end) ≡ false → Cell h ns es ms
+    c-ended : (n : Notice K) (c : Entry R) → ns ≡ one n → n .kind ≡ E → n .begin ≡ 1 → es ≡ one c → ms ≡ []
+        → open-end (n .end) ≡ false → Cell h ns es ms
+    c-both : (n : Notice K) (c : Entry R) → ns ≡ one n → n .kind ≡ BE → es ≡ one c → ms ≡ []
+        → open-end (n .end) ≡ false → Cell h ns es ms
+    -- X alone
     c-emptied : (n : Notice K) → ns ≡ one n → n .kind ≡ X → n .begin ≤ h → Quiet-end h (n .end) → es ≡ [] → ms ≡ [] → Cell h ns es ms
 
+-- the version of a hot row
+abbrev pub row-version : {K R : Type 0} → HotRow K R → Version R
+row-version h = record { begin = h .begin; end = h .end; row = h .row }
+
 module _ {R : Type 0} where
+  -- the version of a cold entry with the row r, by its notice's kind, begin and end: N and X hide it
   abbrev pub kind-version : Kind → ℕ → End → R → List (Version R)
   kind-version N x y r = []
   kind-version B x y r = one (record { begin = b.Stamp x; end = e.Open; row = r })
@@ -57,16 +75,19 @@ module _ {R : Type 0} where
   kind-version BE x y r = one (record { begin = b.Stamp x; end = y; row = r })
   kind-version X x y r = []
 
+  -- without a notice it begins at 1 and is open
   abbrev pub entry-version : {K : Type 0} → Option (Notice K) → R → List (Version R)
   entry-version None r = one (record { begin = b.Stamp 1; end = e.Open; row = r })
   entry-version (Some n) r = kind-version (n .kind) (n .begin) (n .end) r
 
 module _ {K R : Type 0} (number : K → ℕ) where
+  -- a hot row of key k that is on the move under the tag
   abbrev pub mover : ℕ → ℕ → HotRow K R → Bool
   mover k tag h = eqb (number (h .key)) k && bears (h .mark) tag
 
+  -- the versions of key k: of the hot rows, then of the cold entries
   abbrev pub hot-version : ℕ → HotRow K R → List (Version R)
-  hot-version k h = one-if (eqb (number (h .key)) k) (record { begin = h .begin; end = h .end; row = h .row })
+  hot-version k h = one-if (eqb (number (h .key)) k) (row-version h)
 
   abbrev pub cold-version : List (Notice K) → ℕ → Entry R → List (Version R)
   cold-version memo k c = cond (eqb (c .number) k) (entry-version (notice-for number memo (c .number) (c .tag)) (c .row)) []
@@ -80,8 +101,9 @@ module _ {K R : Type 0} (number : K → ℕ) where
   abbrev pub versions : Store K R → ℕ → List (Version R)
   versions σ k = hot-part (σ .hot) k ++ cold-part (σ .memo) (σ .cold) k
 
-  -- the store alone
-  pub record Sound (h last : ℕ) (admits : ℕ → Bool) (hot : List (HotRow K R)) (memo : List (Notice K)) (cold : List (Entry R)) : Type 0 where
+  -- the store alone: every cell has a shape, no tag above the last is in use, and the filter admits what is cold
+  pub record Sound (h last : ℕ) (admits : ℕ → Bool)
+      (hot : List (HotRow K R)) (memo : List (Notice K)) (cold : List (Entry R)) : Type 0 where
     pub cells : (k tag : ℕ) → Cell h (kept (is-for number k tag) memo) (kept (is-of k tag) cold) (kept (mover k tag) hot)
     pub unused : (k tag : ℕ) → last < tag → (kept (is-for number k tag) memo ≡ []) × (kept (is-of k tag) cold ≡ [])
     pub known : (k : ℕ) → any (λ c. eqb (c .number) k) cold ≡ true → admits k ≡ true

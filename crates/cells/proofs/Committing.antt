@@ -23,11 +23,11 @@ use Rattle.rules.specs.Stores.{Store, horizon-of}
 use Rattle.rules.specs.Times.{open-end, stamp-end}
 use Rattle.slots.proofs.Folds.{all-every, each-same, each-map}
 use Rattle.versions.specs.History.{History, commits-at}
-use Rattle.versions.proofs.Versions.{writes-of}
-use Rattle.versions.proofs.Closing.{stamp-version, rel-commit, tidy-commit}
+use Rattle.versions.proofs.Stamping.{stamp-version, rel-commit, tidy-commit}
 use Rattle.cells.proofs.Horizons.{horizon-low, horizon-close}
 use Rattle.cells.proofs.Maps.{option-map, map-each, map-one-if, map-cond, kept-map, first-map}
-use Rattle.cells.proofs.Cells.{Cell, Pending, Quiet-end, c-empty, c-plain, c-idle, c-chosen, c-copied, c-begun, c-ended, c-both, c-emptied, mover, hot-version, cold-version, hot-part, cold-part, versions, entry-version, kind-version, Whole}
+use Rattle.cells.proofs.Cells.{Cell, Pending, Quiet-end, mover, hot-version, cold-version, hot-part, cold-part, entry-version, kind-version, Whole}
+use Rattle.cells.proofs.Cells.{c-empty, c-plain, c-idle, c-chosen, c-copied, c-begun, c-ended, c-both, c-emptied}
 use Rattle.cells.proofs.Sessions.{shut, shut-agree, shut-many, shut-early, shut-reads}
 
 -- an end that is quiet has no mark, so the stamp leaves it
@@ -127,10 +127,8 @@ module _ {K R : Type 0} (number : K → ℕ) where
           };
           rel = λ k.
               rw (stamp-versions s stamp k (σ .hot) (σ .memo) (σ .cold))
-              (rel-commit (horizon-of σ) left (σ .clock) (T .commits) (T .turn) k s (versions number σ k)
-              (w .tidy k) (w .rel k) up (writes-of (T .turn) s k) refl);
+              (rel-commit (w .tidy k) s (w .rel k) up);
           tidy = λ k.
-              tidy-commit (horizon-of σ) left (σ .clock) (T .commits) (T .turn) k s (versions number σ k)
-              (w .tidy k) (w .rel k) up (writes-of (T .turn) s k) refl (horizon-low stamp _ early)
+              tidy-commit (w .tidy k) s (horizon-low stamp _ early)
               (λ u v h ne. shut-reads number σ T w s within stamp k u v h ne);
         }

@@ -1,68 +1,76 @@
--- Where a key is not in conflict for a session, none of its versions has another session's mark or a later stamp.
+-- A key is in conflict for a session just where a version of it has another session's mark or a stamp above the read time,
+-- and so just where the history has such a write: two stores of one history are in conflict alike.
 use Prim.Native.Nat.{ℕ, _≤_}
-use mathlib.Core.Path.{_≡_, refl, ap, sym, _∙_}
-use mathlib.Core.Bool.{Bool, true, false, _||_}
+use mathlib.Core.Path.{_≡_, _∙_}
+use mathlib.Core.Bool.{Bool, false, _||_}
 use mathlib.Core.List.{List}
-use mathlib.Core.Logic.{inl, inr}
-use lib.Dec.{eqb, ltb}
+use native.Mathlib.Omega.{arith}
+use lib.Dec.{ltb}
 use Rattle.std.specs.shelf.Lists.{All}
-use Rattle.std.proofs.shelf.Tests.{cases-bool, eqb-true, le-ltb, and-parts, or-parts}
-use Rattle.std.specs.declared.option.Option.{Option}
-use Rattle.std.specs.declared.option.Option.the-variants.{Some, None}
+use Rattle.std.proofs.shelf.Tests.{or-parts}
+use Rattle.std.proofs.shelf.Ways.{tells}
+use Rattle.std.specs.declared.option.Option.the-variants.{None}
+use Rattle.rules.specs.declared.tables.Begin.{Begin}
 use Rattle.rules.specs.declared.tables.End.{End}
-use Rattle.rules.specs.declared.tables.HotRow.{HotRow}
-use Rattle.rules.specs.declared.tables.Kind.{Kind}
-use Rattle.rules.specs.declared.tables.Kind.the-variants.{N, B, E, BE, X}
-use Rattle.rules.specs.declared.tables.Notice.{Notice}
-use Rattle.cold.specs.Cold.{Entry}
-use Rattle.rules.specs.Looking.{is-for, notice-for, notice-foreign, hot-foreign, conflict}
-use Rattle.rules.specs.Stores.{Store}
-use Rattle.rules.specs.Times.{foreign-end}
+use Rattle.rules.specs.declared.tables.Begin.the-variants as b
+use Rattle.rules.specs.declared.tables.End.the-variants as e
+use Rattle.rules.specs.Looking.{notice-foreign, hot-foreign, conflict}
+use Rattle.rules.specs.Stores.{Store, horizon-of}
+use Rattle.rules.specs.Times.{foreign-begin, foreign-end}
 use Rattle.slots.specs.Lists.{any}
-use Rattle.slots.proofs.Folds.{none-all, all-then, all-every, all-join, all-each, spot}
-use Rattle.versions.proofs.Versions.{Version}
-use Rattle.versions.proofs.Writing.{v-foreign}
-use Rattle.cells.proofs.Cells.{hot-version, cold-version, hot-part, cold-part, versions, entry-version, kind-version}
-use Rattle.cells.proofs.Walking.{found-all}
+use Rattle.slots.proofs.Folds.{none-all, all-both, all-then}
+use Rattle.versions.specs.History.{History, turn-read}
+use Rattle.versions.proofs.Versions.{Version, v-above, writes-of, wrote-above}
+use Rattle.versions.proofs.Marks.{only-marks, no-mark}
+use Rattle.versions.proofs.Seeing.{Calm-for, only-calm}
+use Rattle.versions.proofs.Writing.{Ready, no-other, none-since}
+use Rattle.cells.proofs.Cells.{Quiet-end, versions, Whole}
+use Rattle.cells.proofs.Telling.{Fails-past, Fails-parts, tells-notices, tells-hot, tells-versions, or-open, or-one}
 
-module _ {R : Type 0} where
-  -- nothing foreign to session s with read time t
-  abbrev pub Calm-for : ℕ → ℕ → Version R → Type 0
-  Calm-for s t v = v-foreign s t v ≡ false
+-- the test for session s with read time t
+abbrev foreign : ℕ → ℕ → Begin → End → Bool
+foreign s t x y = foreign-begin x s t || foreign-end y s t
 
-  calm-kind : (s t : ℕ) → 1 ≤ t → (kind : Kind) (x : ℕ) (y : End) (r : R)
-      → (ltb t x || foreign-end y s t) ≡ false → All (Calm-for s t) (kind-version kind x y r)
-  calm-kind s t l N x y r h = tt
-  calm-kind s t l B x y r h = (let q = or-parts (ltb t x) (foreign-end y s t) h in rw (q .0), tt)
-  calm-kind s t l E x y r h = (let q = or-parts (ltb t x) (foreign-end y s t) h in rw (q .1) (rw (le-ltb t 1 l)), tt)
-  calm-kind s t l BE x y r h = (h, tt)
-  calm-kind s t l X x y r h = tt
+foreign-parts : (s t : ℕ) → 1 ≤ t → Fails-parts (foreign s t)
+foreign-parts s t late = record {
+  plain = grind (arith, tells);
+  opens = λ x y free. or-open (ltb t x) (foreign-end y s t) free;
+  ones = λ x y free. or-one t x (foreign-end y s t) late free;
+}
+
+foreign-quiet : (s t h x : ℕ) (y : End) → h ≤ t → x ≤ h → Quiet-end h y → foreign s t (b.Stamp x) y ≡ false
+foreign-quiet s t h x e.Open from low quiet = grind (arith, tells)
+foreign-quiet s t h x (e.Stamp n) from low quiet = grind (arith, tells)
+foreign-quiet s t h x (e.Mark n) from low quiet = elim quiet [ ]
+
+foreign-past : (s t h : ℕ) → 1 ≤ t → h ≤ t → Fails-past h (foreign s t)
+foreign-past s t h late from = record { plain = grind (arith, tells); quiet = λ x y low quiet. foreign-quiet s t h x y from low quiet }
 
 module _ {K R : Type 0} (number : K → ℕ) where
-  calm-entry : (s t k : ℕ) → 1 ≤ t → (memo : List (Notice K)) (c : Entry R) → any (notice-foreign number s t k) memo ≡ false
-      → c .number ≡ k → (o : Option (Notice K)) → notice-for number memo (c .number) (c .tag) ≡ o
-      → All (Calm-for s t) (entry-version o (c .row))
-  calm-entry s t k l memo c h e None p = (rw (le-ltb t 1 l), tt)
-  calm-entry s t k l memo c h e (Some n) p =
-      let its : Notice K → Bool = is-for number (c .number) (c .tag) in
-      let a = found-all (λ x. notice-foreign number s t k x ≡ false) its memo n (none-all _ memo h) p in
-      let at = and-parts (eqb (number (n .key)) (c .number)) (eqb (n .tag) (c .tag)) (spot its memo n p .passes) in
-      let key : eqb (number (n .key)) k ≡ true = ap (λ z. eqb (number (n .key)) z) (sym e) ∙ at .0 in
-      calm-kind s t l (n .kind) (n .begin) (n .end) (c .row) (rw key at a)
-
-  calm-cold : (s t k : ℕ) → 1 ≤ t → (memo : List (Notice K)) (c : Entry R) → any (notice-foreign number s t k) memo ≡ false
-      → All (Calm-for s t) (cold-version number memo k c)
-  calm-cold s t k l memo c h = elim (cases-bool (eqb (c .number) k)) [
-    | inl y ↦ rw y (calm-entry s t k l memo c h (eqb-true _ _ y) (notice-for number memo (c .number) (c .tag)) refl)
-    | inr y ↦ rw y tt
-  ]
-
-  calm-hot : (s t k : ℕ) (x : HotRow K R) → hot-foreign number s t k x ≡ false → All (Calm-for s t) (hot-version number k x)
-  calm-hot s t k x h = elim (cases-bool (eqb (number (x .key)) k)) [ inl y ↦ rw y ((rw y at h), tt) | inr y ↦ rw y tt ]
-
+  -- without a conflict nothing foreign stands on the versions
   pub no-conflict : (σ : Store K R) (s t k : ℕ) → 1 ≤ t → conflict number σ s t k ≡ false → All (Calm-for s t) (versions number σ k)
-  no-conflict σ s t k l h =
-      let q = or-parts (any (hot-foreign number s t k) (σ .hot)) (any (notice-foreign number s t k) (σ .memo)) h in
-      all-join (Calm-for s t) (hot-part number (σ .hot) k) (cold-part number (σ .memo) (σ .cold) k)
-      (all-each _ (hot-version number k) (σ .hot) (all-then _ _ (σ .hot) (none-all _ (σ .hot) (q .0)) (calm-hot s t k)))
-      (all-each _ (cold-version number (σ .memo) k) (σ .cold) (all-every _ (σ .cold) (λ c. calm-cold s t k l (σ .memo) c (q .1))))
+  no-conflict σ s t k late free =
+      let parts = or-parts (any (hot-foreign number s t k) (σ .hot)) (any (notice-foreign number s t k) (σ .memo)) free in
+      tells-versions number σ k (foreign s t) (foreign-parts s t late) (parts .1) (parts .0)
+
+  -- where no other session has a write and no commit since, there is no conflict
+  conflict-none : (σ : Store K R) (T : History R) (s t k : ℕ) → Whole number σ T → horizon-of σ ≤ t → 1 ≤ t
+      → ((m : ℕ) → (m ≡ s → ⊥) → writes-of (T .turn) m k ≡ None) → wrote-above (T .commits) t k ≡ false
+      → conflict number σ s t k ≡ false
+  conflict-none σ T s t k w from late no-write none-since =
+      let V : List (Version R) = versions number σ k in
+      let only = only-marks s V (λ m ne. no-mark (w .rel k) m (no-write m ne)) in
+      let low = none-all (v-above t) V (w .rel k .stamps t from ∙ none-since) in
+      let calm : All (Calm-for s t) V = all-then _ _ V (all-both _ _ V only low) (λ v p. only-calm s t v (p .0) (p .1)) in
+      let notices = tells-notices number σ k (foreign s t) calm w (foreign-past s t (horizon-of σ) late from) in
+      rw (tells-hot number σ k (foreign s t) calm, notices)
+
+  pub conflict-same : (σ τ : Store K R) (T : History R) (s k : ℕ) → Whole number σ T → Whole number τ T
+      → horizon-of σ ≤ turn-read (T .turn s) → horizon-of τ ≤ turn-read (T .turn s)
+      → 1 ≤ turn-read (T .turn s) → turn-read (T .turn s) ≤ τ .clock
+      → conflict number τ s (turn-read (T .turn s)) k ≡ false → conflict number σ s (turn-read (T .turn s)) k ≡ false
+  conflict-same σ τ T s k w x from from′ late upto free =
+      let time : ℕ = turn-read (T .turn s) in
+      let ready : Ready (horizon-of τ) (τ .clock) (T .commits) (T .turn) k s (versions number τ k) =
+      record { tidy = x .tidy k; rel = x .rel k; from = from′; upto = upto; calm = no-conflict τ s time k late free } in
+      conflict-none σ T s time k w from late (no-other ready) (none-since ready)

@@ -22,8 +22,7 @@ use Rattle.slots.proofs.Folds.{Spot, spot}
 use Rattle.slots.proofs.Edits.{first-of-one, kept-hit, kept-miss, each-calm}
 use Rattle.versions.specs.History.{History}
 use Rattle.cells.proofs.Cells.{Cell, c-copied, mover, hot-version, cold-version, Whole}
-use Rattle.cells.proofs.Calm.{few-movers}
-use Rattle.cells.proofs.Shapes.{same-pair, pair-self, Held, Under-move, under-move}
+use Rattle.cells.proofs.Shapes.{same-pair, pair-self, Held, Under-move, under-move, few-movers}
 use Rattle.cells.proofs.OneCell.{Same-elsewhere, only-one, edit-here, edit-elsewhere, sound-but, whole-with}
 use Rattle.cells.proofs.Entries.{kept-put-miss, kept-put-hit, each-put, any-put}
 use Rattle.cells.proofs.Splitting.{cond-nil}
@@ -66,7 +65,7 @@ module _ {K R : Type 0} (number : K → ℕ) (σ : Store K R) (T : History R) (w
       was-mover k t = ap (λ m. eqb own k && bears m t) mark-is
 
       few : length (kept (mover number own tag) (σ .hot)) ≤ 1
-      few = few-movers number _ _ _ _ (w .sound .cells own tag)
+      few = few-movers _ _ _ _ (w .sound .cells own tag)
 
       mover-here : kept (mover number own tag) hot-after ≡ one marked
       mover-here = edit-here (mover number) own tag place was-mover few _ ∙ kept-hit (mover number own tag) marked (pair-self own tag)

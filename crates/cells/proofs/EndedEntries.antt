@@ -24,7 +24,8 @@ use Rattle.slots.proofs.Folds.{Spot, spot, kept-append}
 use Rattle.slots.proofs.Edits.{kept-one, kept-hit, kept-miss, kept-it, kept-there, first-of-none, first-of-one}
 use Rattle.versions.specs.History.{History, turn-read}
 use Rattle.versions.proofs.Versions.{Version, v-sees, writes-of}
-use Rattle.cells.proofs.Cells.{Cell, c-empty, c-plain, c-idle, c-chosen, c-copied, c-begun, c-ended, c-both, c-emptied, mover, Sound, hot-part, cold-part, cold-version, versions, entry-version, kind-version}
+use Rattle.cells.proofs.Cells.{Cell, mover, Sound, hot-part, cold-part, cold-version, versions, entry-version, kind-version}
+use Rattle.cells.proofs.Cells.{c-empty, c-plain, c-idle, c-chosen, c-copied, c-begun, c-ended, c-both, c-emptied}
 use Rattle.cells.proofs.Shapes.{same-pair, pair-self, every-pair, cell-eq, few-notes, few-entries}
 use Rattle.cells.proofs.OneCell.{edit-elsewhere, edit-here}
 use Rattle.cells.proofs.Splitting.{Elsewhere, Split, split}

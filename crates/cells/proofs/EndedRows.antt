@@ -17,11 +17,10 @@ use Rattle.slots.proofs.Folds.{spot}
 use Rattle.slots.proofs.Edits.{kept-miss, kept-calm, kept-change}
 use Rattle.versions.specs.History.{History, turn-read}
 use Rattle.versions.proofs.Versions.{writes-of}
-use Rattle.cells.proofs.Cells.{mover}
-use Rattle.cells.proofs.Calm.{clear, few-movers}
-use Rattle.cells.proofs.Shapes.{cell-eq}
+use Rattle.cells.proofs.Cells.{row-version, mover}
+use Rattle.cells.proofs.Shapes.{clear, few-movers, cell-eq}
 use Rattle.cells.proofs.Writes.{May-write, Freed, freed-by}
-use Rattle.cells.proofs.HotEdits.{row-version, front, back, around, around-set, others-set}
+use Rattle.cells.proofs.HotEdits.{front, back, around, around-set, others-set}
 
 module _ {K R : Type 0} (number : K → ℕ) {σ : Store K R} {T : History R} {s : ℕ} {key : K} (m : May-write number σ T s key)
     (unwritten : writes-of (T .turn) s (number key) ≡ None) where
@@ -44,8 +43,8 @@ module _ {K R : Type 0} (number : K → ℕ) {σ : Store K R} {T : History R} {s
       (record {
         cells = λ j tag. elim (cases-bool (mover number j tag x)) [
           | inl t ↦
-              cell-eq refl refl (kept-change at (mover number j tag) f t (few-movers number _ _ _ _ (m .whole .sound .cells j tag)) ∙ unmoved j tag)
-              (clear number _ _ _ _ (m .whole .sound .cells j tag))
+              cell-eq refl refl (kept-change at (mover number j tag) f t (few-movers _ _ _ _ (m .whole .sound .cells j tag)) ∙ unmoved j tag)
+              (clear _ _ _ _ (m .whole .sound .cells j tag))
           | inr t ↦
               cell-eq refl refl (kept-calm at (mover number j tag) f (unmoved j tag ∙ sym (kept-miss (mover number j tag) x t)))
               (m .whole .sound .cells j tag)

@@ -11,11 +11,7 @@ use Rattle.slots.specs.Lists.{at-first, one, one-if}
 use Rattle.slots.proofs.Folds.{Spot}
 use Rattle.slots.proofs.Edits.{each-is, each-set, each-out, each-calm}
 use Rattle.versions.proofs.Versions.{Version}
-use Rattle.cells.proofs.Cells.{hot-version, hot-part, cold-part, versions}
-
-module _ {K R : Type 0} where
-  abbrev pub row-version : HotRow K R → Version R
-  row-version x = record { begin = x .begin; end = x .end; row = x .row }
+use Rattle.cells.proofs.Cells.{row-version, hot-version, hot-part, cold-part, versions}
 
 module _ {K R : Type 0} (number : K → ℕ) where
   -- the first row that passes p is x, a row of key number k

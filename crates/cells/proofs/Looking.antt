@@ -18,14 +18,15 @@ use Rattle.rules.specs.declared.tables.Notice.{Notice}
 use Rattle.cold.specs.Cold.{Entry}
 use Rattle.rules.specs.Looking.{noted-sees, notice-for, hot-sees, cold-sees, row-of, looked}
 use Rattle.rules.specs.Notices.{kind-sees}
-use Rattle.rules.specs.Stores.{Store, session-at, horizon-of}
+use Rattle.rules.specs.Stores.{Store, session-at}
 use Rattle.slots.specs.Lists.{first, each, one-if, list-of}
 use Rattle.slots.proofs.Folds.{all-every, each-same, each-each}
 use Rattle.slots.proofs.Edits.{head}
 use Rattle.versions.specs.History.{History, over, shown, turn-writes, turn-read}
-use Rattle.versions.proofs.Versions.{Version, v-sees, rows, rows-append, writes-of}
-use Rattle.versions.proofs.Closing.{no-mark}
-use Rattle.versions.proofs.Writing.{plain-reader}
+use Rattle.versions.proofs.Versions.{Version, v-sees, rows, writes-of}
+use Rattle.versions.proofs.Rows.{rows-append}
+use Rattle.versions.proofs.Marks.{no-mark}
+use Rattle.versions.proofs.Seeing.{plain-reader}
 use Rattle.cells.proofs.Maps.{option-map}
 use Rattle.cells.proofs.Cells.{hot-version, cold-version, hot-part, cold-part, versions, entry-version, kind-version, Whole}
 use Rattle.cells.proofs.Sessions.{Reader, reader, read-time}
@@ -127,7 +128,7 @@ module _ {K R : Type 0} (number : K → ℕ) where
           go : (o : Option (Option R)) → writes-of (T .turn) s k ≡ o
               → rows (v-sees s time) (versions number σ k) ≡ list-of (over o (shown (T .commits) time k))
           go None p =
-              plain-reader s time (versions number σ k) (no-mark (horizon-of σ) (T .commits) (T .turn) k s (versions number σ k) (w .rel k) p)
+              plain-reader s time (versions number σ k) (no-mark (w .rel k) s p)
               ∙ w .rel k .plain time (o .from)
           go (Some v) p = w .rel k .mine s v p time (omega arith)
 

@@ -6,7 +6,6 @@ use mathlib.Core.List.{List, [], _∷_, _++_}
 use mathlib.Core.Logic.{inl, inr}
 use native.Mathlib.Omega.{arith}
 use lib.Dec.{eqb}
-use Rattle.std.specs.shelf.Lists.{All}
 use Rattle.std.proofs.shelf.Tests.{cases-bool, and-parts}
 use Rattle.std.specs.declared.option.Option.{Option}
 use Rattle.std.specs.declared.option.Option.the-variants.{Some, None}
@@ -18,15 +17,15 @@ use Rattle.rules.specs.Times.{begin-marked}
 use Rattle.slots.specs.Lists.{first, any, at-first, kept, one}
 use Rattle.slots.proofs.Folds.{Spot, spot, first-some}
 use Rattle.slots.proofs.Edits.{kept-miss, kept-calm, kept-it}
-use Rattle.versions.specs.History.{History, turn-read, puts, drops, had}
+use Rattle.versions.specs.History.{History, puts, drops, had}
 use Rattle.versions.proofs.Versions.{Version, v-begun, rows, Rel, put-of, writes-of}
-use Rattle.versions.proofs.Writing.{rel-own-put, rel-own-drop, rows-some}
-use Rattle.cells.proofs.Cells.{mover, Sound, Whole}
-use Rattle.cells.proofs.Calm.{few-movers}
-use Rattle.cells.proofs.Shapes.{cell-eq, under-move}
-use Rattle.cells.proofs.Conflicts.{Calm-for}
-use Rattle.cells.proofs.Writes.{May-write, written, whole-write}
-use Rattle.cells.proofs.HotEdits.{row-version, front, back, around, around-set, around-out, others-set, others-out}
+use Rattle.versions.proofs.OneVersion.{rows-some}
+use Rattle.versions.proofs.Writing.{Ready}
+use Rattle.versions.proofs.Edits.{rel-own-put, rel-own-drop}
+use Rattle.cells.proofs.Cells.{row-version, mover, Sound, Whole}
+use Rattle.cells.proofs.Shapes.{cell-eq, under-move, few-movers}
+use Rattle.cells.proofs.Writes.{May-write, written, whole-write, ready}
+use Rattle.cells.proofs.HotEdits.{front, back, around, around-set, around-out, others-set, others-out}
 
 was-put : {R : Type 0} (o : Option (Option R)) (q : R) → put-of o ≡ Some q → o ≡ Some (Some q)
 was-put None q h = absurd (let z : _≡_ {A = ℕ} 0 1 = cc in omega arith)
@@ -61,7 +60,7 @@ module _ {K R : Type 0} (number : K → ℕ) {σ : Store K R} {T : History R} {s
   pub has-put : (q : R) × (writes-of (T .turn) s k ≡ Some (Some q))
   has-put =
       let some =
-      rows-some (v-begun s) before (row-version x) behind (put-of (writes-of (T .turn) s k)) own
+      rows-some before (row-version x) behind (v-begun s) (put-of (writes-of (T .turn) s k)) own
       (ap (rows (v-begun s)) (sym (around number σ k at its)) ∙ m .whole .rel k .begun s) in
       (some .0, was-put (writes-of (T .turn) s k) (some .0) (some .1))
 
@@ -70,7 +69,7 @@ module _ {K R : Type 0} (number : K → ℕ) {σ : Store K R} {T : History R} {s
   still j tag = elim (cases-bool (mover number j tag x)) [
     | inl t ↦ absurd (
         let cell = m .whole .sound .cells j tag in
-        let lone = kept-it at (mover number j tag) t (few-movers number _ _ _ _ cell) in
+        let lone = kept-it at (mover number j tag) t (few-movers _ _ _ _ cell) in
         let begun = under-move _ _ _ _ x cell lone in
         let stamped : begin-marked (b.Stamp (begun .stamp)) s ≡ true = ap (λ z. begin-marked z s) (sym (begun .begins)) ∙ own in
         let z : _≡_ {A = ℕ} 0 1 = cc in
@@ -88,18 +87,14 @@ module _ {K R : Type 0} (number : K → ℕ) {σ : Store K R} {T : History R} {s
     known = m .whole .sound .known;
   }
 
-  related : Rel (horizon-of σ) (T .commits) (T .turn) k (before ++ (row-version x ∷ behind))
-  related = rw (around number σ k at its) at (m .whole .rel k)
-
-  calm : All (Calm-for s (turn-read (T .turn s))) (before ++ (row-version x ∷ behind))
-  calm = rw (around number σ k at its) at (m .calm)
+  split : Ready (horizon-of σ) (σ .clock) (T .commits) (T .turn) k s (before ++ (row-version x ∷ behind))
+  split = rw (around number σ k at its) at (ready number m)
 
   whole-replace : (row : R) → Whole number (replace-own number σ s key row) (puts T s k row)
   whole-replace row =
       let f : HotRow K R → List (HotRow K R) = λ z. one (with-row row z) in
       let put : Rel (horizon-of σ) (T .commits) (puts T s k row .turn) k (before ++ (row-version (with-row row x) ∷ behind)) =
-      rel-own-put (horizon-of σ) (σ .clock) (T .commits) (T .turn) (puts T s k row .turn) k s before (row-version x) behind
-      (m .whole .tidy k) related (m .reader .from) (m .reader .upto) calm row (has-put .0) own (has-put .1) (written number m (Some (Some row))) in
+      rel-own-put before (row-version x) behind split (has-put .0) own (has-put .1) row (written number m (Some (Some row))) in
       whole-write number m (Some (Some row)) (λ h. absurd (let z : _≡_ {A = ℕ} 0 1 = cc in omega arith)) _ _
       (own-sound f (λ j tag. kept-miss (mover number j tag) (with-row row x) (still j tag)))
       (rw (around-set number σ k at its f (with-row row x) refl refl) put)
@@ -110,8 +105,7 @@ module _ {K R : Type 0} (number : K → ℕ) {σ : Store K R} {T : History R} {s
   whole-out =
       let v : Option (Option R) = cond (had T s k) (Some None) None in
       let gone : Rel (horizon-of σ) (T .commits) (drops T s k .turn) k (before ++ behind) =
-      rel-own-drop (horizon-of σ) (σ .clock) (T .commits) (T .turn) (drops T s k .turn) k s before (row-version x) behind
-      (m .whole .tidy k) related (m .reader .from) (m .reader .upto) calm (has-put .0) own (has-put .1) (written number m v) in
+      rel-own-drop before (row-version x) behind split (has-put .0) own (has-put .1) (written number m v) in
       whole-write number m v (was-had (had T s k)) _ _
       (own-sound (λ z. []) (λ j tag. refl))
       (rw (around-out number σ k at its (λ z. []) refl) gone)

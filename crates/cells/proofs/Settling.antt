@@ -30,10 +30,10 @@ use Rattle.slots.specs.Lists.{first, kept, one, one-if}
 use Rattle.slots.proofs.Folds.{Spot, spot}
 use Rattle.slots.proofs.Edits.{first-of-one, kept-hit, kept-miss, each-is, each-out}
 use Rattle.versions.specs.History.{History}
-use Rattle.versions.proofs.Versions.{Version, rel-swap}
+use Rattle.versions.proofs.Versions.{Version}
+use Rattle.versions.proofs.Swapping.{rel-swap}
 use Rattle.cells.proofs.Cells.{Cell, c-begun, mover, hot-version, cold-version, hot-part, kind-version, entry-version, versions, Whole}
-use Rattle.cells.proofs.Calm.{few-movers}
-use Rattle.cells.proofs.Shapes.{same-pair, pair-self, Held, Under-move, under-move, few-notes}
+use Rattle.cells.proofs.Shapes.{same-pair, pair-self, Held, Under-move, under-move, few-notes, few-movers}
 use Rattle.cells.proofs.OneCell.{Same-elsewhere, only-one, edit-here, edit-elsewhere, nothing-inside, sound-but, whole-with}
 use Rattle.cells.proofs.Splitting.{Elsewhere, Split, split, version-at, cond-nil, cond-one}
 
@@ -68,7 +68,7 @@ module _ {K R : Type 0} (number : K → ℕ) (σ : Store K R) (T : History R) (w
     was-mover k t = ap (λ m. eqb own k && bears m t) mark-is
 
     few : length (kept (mover number own tag) (σ .hot)) ≤ 1
-    few = few-movers number _ _ _ _ (w .sound .cells own tag)
+    few = few-movers _ _ _ _ (w .sound .cells own tag)
 
     mover-gone : kept (mover number own tag) (after .hot) ≡ []
     mover-gone = edit-here (mover number) own tag place was-mover few (λ x. []) ∙ nothing-inside (mover number own tag)
@@ -156,5 +156,5 @@ module _ {K R : Type 0} (number : K → ℕ) (σ : Store K R) (T : History R) (w
         (sound-but number (w .sound) own tag pending (its-cell .notes) cell-here notes-elsewhere (λ k t other. refl) movers-elsewhere
         (w .sound .known))
         (λ k. rw (versions-after k)
-        (rel-swap (horizon-of σ) (T .commits) (T .turn) k (hot-part number (place .pre) k) (hot-version number k h) (between k) (cut k .back)
+        (rel-swap (hot-part number (place .pre) k) (hot-version number k h) (between k) (cut k .back)
         (rw (versions-before k) at (w .rel k))))

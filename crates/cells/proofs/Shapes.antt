@@ -3,7 +3,7 @@ use Prim.Native.Nat.{ℕ, _≤_}
 use mathlib.Core.Path.{_≡_, refl, subst}
 use mathlib.Core.Bool.{Bool, true, false, _&&_}
 use mathlib.Core.List.{List, []}
-use mathlib.Core.Logic.{inl, inr}
+use mathlib.Core.Logic.{_⊎_, inl, inr}
 use native.Mathlib.Omega.{arith}
 use lib.Dec.{eqb}
 use lib.ListN.{length}
@@ -112,3 +112,34 @@ module _ {K R : Type 0} where
   under-move h ns es ms r (c-ended n c p q u x z ne) g = none-and-one _ z g
   under-move h ns es ms r (c-both n c p q x z ne) g = none-and-one _ z g
   under-move h ns es ms r (c-emptied n p q u v x z) g = none-and-one _ z g
+
+  -- at most one row is on the move, and its end is open
+  pub on-move : (h : ℕ) (ns : List (Notice K)) (es : List (Entry R)) (ms : List (HotRow K R)) → Cell h ns es ms
+      → (ms ≡ []) ⊎ ((m : HotRow K R) × (ms ≡ one m) × (m .end ≡ e.Open))
+  on-move h ns es ms (c-empty p q z) = inl z
+  on-move h ns es ms (c-plain c p q z) = inl z
+  on-move h ns es ms (c-idle n p q u z) = inl z
+  on-move h ns es ms (c-chosen n m i p q u z t a x y) = inr (m, z, y)
+  on-move h ns es ms (c-copied n m i c p q u z t a x y v) = inr (m, z, y)
+  on-move h ns es ms (c-begun n c p q u x z) = inl z
+  on-move h ns es ms (c-ended n c p q u x z ne) = inl z
+  on-move h ns es ms (c-both n c p q x z ne) = inl z
+  on-move h ns es ms (c-emptied n p q u v x z) = inl z
+
+  pub few-movers : (h : ℕ) (ns : List (Notice K)) (es : List (Entry R)) (ms : List (HotRow K R)) → Cell h ns es ms → length ms ≤ 1
+  few-movers h ns es ms cell = elim (on-move h ns es ms cell) [
+    | inl none ↦ rw none (omega arith)
+    | inr lone ↦ rw (lone .1) (omega arith)
+  ]
+
+  -- the cell without its row on the move
+  pub clear : (h : ℕ) (ns : List (Notice K)) (es : List (Entry R)) (ms : List (HotRow K R)) → Cell h ns es ms → Cell h ns es []
+  clear h ns es ms (c-empty p q z) = c-empty p q refl
+  clear h ns es ms (c-plain c p q z) = c-plain c p q refl
+  clear h ns es ms (c-idle n p q u z) = c-idle n p q u refl
+  clear h ns es ms (c-chosen n m i p q u z t a x y) = c-idle n p q (rw u (omega arith)) refl
+  clear h ns es ms (c-copied n m i c p q u z t a x y v) = c-idle n p q (rw u (omega arith)) refl
+  clear h ns es ms (c-begun n c p q u x z) = c-begun n c p q u x refl
+  clear h ns es ms (c-ended n c p q u x z ne) = c-ended n c p q u x refl ne
+  clear h ns es ms (c-both n c p q x z ne) = c-both n c p q x refl ne
+  clear h ns es ms (c-emptied n p q u v x z) = c-emptied n p q u v x refl

@@ -26,14 +26,15 @@ use Rattle.rules.specs.Notices.{becomes, due-kind}
 use Rattle.rules.specs.Stores.{Store, with-memo, with-cold, horizon-of}
 use Rattle.rules.specs.Times.{end-past}
 use Rattle.slots.specs.Lists.{first, any, at-first, each, kept, one}
-use Rattle.slots.proofs.Folds.{none-all, all-then, all-every, all-front, all-back, each-same, Spot, spot}
+use Rattle.slots.proofs.Folds.{none-all, all-then, all-every, all-back, each-same, Spot, spot}
 use Rattle.slots.proofs.Edits.{kept-passes, kept-none, none-kept, kept-hit, kept-miss, first-of-none, first-of-one}
 use Rattle.versions.specs.History.{History}
 use Rattle.versions.proofs.Versions.{Version, Shaped, v-shaped}
-use Rattle.versions.proofs.Quiet.{Fewer, none, sunk, rel-fewer}
+use Rattle.versions.proofs.Fewer.{Fewer, none, sunk, fewer-all, fewer-append, fewer-past, rel-fewer}
 use Rattle.cells.proofs.Horizons.{horizon-start}
-use Rattle.cells.proofs.Cells.{Cell, Quiet-end, mover, hot-part, cold-version, cold-part, kind-version, entry-version, Whole, c-empty, c-plain, c-idle, c-chosen, c-copied, c-begun, c-ended, c-both, c-emptied}
-use Rattle.cells.proofs.Calm.{fewer-all, fewer-append, dead-row}
+use Rattle.cells.proofs.Cells.{Cell, Quiet-end, mover, hot-part, cold-version, cold-part, kind-version, entry-version, Whole}
+use Rattle.cells.proofs.Cells.{c-empty, c-plain, c-idle, c-chosen, c-copied, c-begun, c-ended, c-both, c-emptied}
+use Rattle.cells.proofs.Found.{all-parts}
 use Rattle.cells.proofs.Shapes.{same-pair, pair-self, cell-eq, few-notes, none-and-one}
 use Rattle.cells.proofs.OneCell.{Same-elsewhere, only-one, edit-here, edit-elsewhere, nothing-inside, sound-but, whole-with}
 use Rattle.cells.proofs.Entries.{removed-here, removed-elsewhere, any-removed, each-removed}
@@ -50,17 +51,13 @@ past-low h x e.Open p s = absurd (let z : _≡_ {A = ℕ} 0 1 = cc in omega arit
 past-low h x (e.Stamp m) p s = omega (arith, leb-true m h p)
 past-low h x (e.Mark m) p s = absurd (let z : _≡_ {A = ℕ} 0 1 = cc in omega arith)
 
-all-parts : {X Y : Type 0} (P : Y → Type 0) (f : X → List Y) (xs : List X) → All P (each f xs) → All (λ x. All P (f x)) xs
-unfolding each
-all-parts P f [] a = tt
-all-parts P f (x ∷ xs) a = (all-front P (f x) (each f xs) a, all-parts P f xs (all-back P (f x) (each f xs) a))
-
 all-kept : {X : Type 0} (P : X → Type 0) (p : X → Bool) (xs : List X) → All P xs → All P (kept p xs)
 unfolding kept
 all-kept P p xs a = all-kept-by p P xs a
 
 module _ {R : Type 0} where
-  fewer-each : {X : Type 0} (h : ℕ) (f g : X → List (Version R)) (xs : List X) → All (λ x. Fewer h (f x) (g x)) xs → Fewer h (each f xs) (each g xs)
+  fewer-each : {X : Type 0} (h : ℕ) (f g : X → List (Version R)) (xs : List X)
+      → All (λ x. Fewer h (f x) (g x)) xs → Fewer h (each f xs) (each g xs)
   unfolding each
   fewer-each h f g [] a = none
   fewer-each h f g (x ∷ xs) a = fewer-append h (a .0) (fewer-each h f g xs (a .1))
@@ -140,7 +137,7 @@ module _ {K R : Type 0} (number : K → ℕ) (σ : Store K R) (T : History R) (w
           whole-with number σ T (σ .hot) (edited f) cold (σ .admits) (σ .last-tag) w (w .tags)
           (sound-but number (w .sound) own tag n lone (cell-eq notes-here refl refl cell) notes-elsewhere others (λ k t other. refl)
           (λ k p. w .sound .known k (within k p)))
-          (λ k. rel-fewer h (σ .clock) (T .commits) (T .turn) k _ _ (w .tidy k)
+          (λ k. rel-fewer (w .tidy k)
           (fewer-append h (fewer-all h (hot-part number (σ .hot) k)) (fewer k)) (w .rel k))
 
     -- B and X: the notice is taken out
@@ -259,14 +256,14 @@ module _ {K R : Type 0} (number : K → ℕ) (σ : Store K R) (T : History R) (w
             let kind : n .kind ≡ E = cc in
             let low : n .begin ≤ h = rw (sym (ap (λ x. x .begin) s) ∙ u) start in
             by-kind E kind (whole-emptied low (past-quiet h (n .end) (due-as E kind)) z
-            (fades-as E (λ r. []) kind (λ r a. dead-row h (b.Stamp 1) (n .end) r (a .0) (due-as E kind))))
+            (fades-as E (λ r. []) kind (λ r a. fewer-past h (b.Stamp 1) (n .end) r (a .0) (due-as E kind))))
         go (c-both m c p q x z ne) =
             let s : m ≡ n = cc lone in
             let kind : n .kind ≡ BE = cc in
             let shape = subst (λ k. All v-shaped (kind-version k (n .begin) (n .end) (c .row))) kind (own-shape c x) in
             let low = past-low h (n .begin) (n .end) (due-as BE kind) (shape .0) in
             by-kind BE kind (whole-emptied low (past-quiet h (n .end) (due-as BE kind)) z
-            (fades-as BE (λ r. []) kind (λ r a. dead-row h (b.Stamp (n .begin)) (n .end) r (a .0) (due-as BE kind))))
+            (fades-as BE (λ r. []) kind (λ r a. fewer-past h (b.Stamp (n .begin)) (n .end) r (a .0) (due-as BE kind))))
         go (c-emptied m p q u v x z) =
             let s : m ≡ n = cc lone in
             let kind : n .kind ≡ X = cc in

@@ -1,7 +1,7 @@
 -- A lookup finds the first hot row of the key that is seen, else the first cold entry of the key that is seen: the finds walk
 -- through all of the key's entries, since no tag in use is the highest, and the filter admits every key with an entry.
 use Prim.Native.Nat.{ℕ, _+_, _<_, _≤_}
-use mathlib.Core.Path.{_≡_, refl, ap, sym, _∙_, subst}
+use mathlib.Core.Path.{_≡_, refl, ap, sym, _∙_}
 use mathlib.Core.Bool.{Bool, true, false, cond, _&&_}
 use mathlib.Core.List.{List, [], _∷_}
 use mathlib.Core.Logic.{inl, inr}
@@ -19,14 +19,11 @@ use Rattle.cold.specs.Cold.{Entry, is-of, is-own, own}
 use Rattle.rules.specs.Looking.{hot-sees, cold-sees, Seen, hot-one, cold-one, nothing, Looked, walk, hot-first, looked}
 use Rattle.rules.specs.Stores.{Store}
 use Rattle.slots.specs.Lists.{first, any, kept}
-use Rattle.slots.proofs.Folds.{none-all, all-then, all-back, spot}
+use Rattle.slots.proofs.Folds.{none-all, all-then, spot}
 use Rattle.slots.proofs.Edits.{kept-none, none-kept}
 use Rattle.versions.specs.History.{History}
 use Rattle.cells.proofs.Cells.{Whole}
-
--- an element found by a test has what all elements have
-pub found-all : {X : Type 0} (P : X → Type 0) (p : X → Bool) (xs : List X) (x : X) → All P xs → first p xs ≡ Some x → P x
-found-all P p xs x a g = let at = spot p xs x g in all-back P (at .pre) (x ∷ at .post) (subst (All P) (at .is) a) .0
+use Rattle.cells.proofs.Found.{found-all}
 
 module _ {R : Type 0} where
   -- the key's own entries, searched: the key's first entry that passes

@@ -21,11 +21,14 @@ use Rattle.rules.specs.Stores.{Store, session-at, with-hot, with-memo, horizon-
 use Rattle.rules.specs.Times.{foreign-begin, foreign-end}
 use Rattle.versions.specs.History.{Turn, History, turn-writes, turn-read, upd, with-turn, wrote, had}
 use Rattle.versions.proofs.Versions.{Version, v-sees, rows, Rel, Tidy, writes-of}
-use Rattle.versions.proofs.Quiet.{SameAt, rel-same, tidy-same}
-use Rattle.versions.proofs.Writing.{Wrote, tidy-wrote, rel-end, all-at, all-put}
+use Rattle.versions.proofs.Same.{SameAt, rel-same, tidy-same}
+use Rattle.versions.proofs.Seeing.{Calm-for}
+use Rattle.versions.proofs.OneVersion.{all-at, all-with}
+use Rattle.versions.proofs.Writing.{Ready, Wrote, tidy-wrote}
+use Rattle.versions.proofs.Edits.{rel-end, had-seen}
 use Rattle.cells.proofs.Cells.{Sound, Agree, Whole, hot-part, cold-part, versions}
 use Rattle.cells.proofs.Sessions.{Reader, reader, read-time}
-use Rattle.cells.proofs.Conflicts.{Calm-for, no-conflict}
+use Rattle.cells.proofs.Conflicts.{no-conflict}
 
 -- the session's own mark as an end is not foreign to it
 own-end : (x y : Bool) (s : ℕ) → (x || y) ≡ false → (x || not (eqb s s)) ≡ false
@@ -138,26 +141,25 @@ module _ {K R : Type 0} (number : K → ℕ) where
     pub written : (v : Option (Option R)) → Wrote (T .turn) (after v .turn) s k v
     written v = wrote-at T s k (o .turn) (o .has) v
 
+    pub ready : Ready low (σ .clock) (T .commits) (T .turn) k s (versions number σ k)
+    ready = record { tidy = w .tidy k; rel = w .rel k; from = o .from; upto = o .upto; calm = m .calm }
+
     tidy-write : (v : Option (Option R)) → (v ≡ Some None → had T s k ≡ true)
         → (j : ℕ) → Tidy low (σ .clock) (T .commits) (after v .turn) j
     tidy-write v hd j = elim (cases-eq j k) [
       | inl q ↦
           subst (λ z. Tidy low (σ .clock) (T .commits) (after v .turn) z) (sym q)
-          (tidy-wrote low (σ .clock) (T .commits) (T .turn) (after v .turn) k s (versions number σ k)
-          (w .tidy k) (w .rel k) (o .from) (o .upto) (m .calm) v (written v) hd)
+          (tidy-wrote ready (written v) hd)
       | inr q ↦
-          tidy-same low low (σ .clock) (σ .clock) (T .commits) (T .commits) (T .turn) (after v .turn) j (w .tidy j .low) (omega arith)
-          (λ u y p. w .tidy j .reads u y p .0) (w .tidy j .past) (same-at T s k (o .turn) (o .has) v j q) (w .tidy j)
+          tidy-same (same-at T s k (o .turn) (o .has) v j q) (w .tidy j .low) (omega arith)
+          (λ u y p. w .tidy j .reads u y p .0) (w .tidy j .past) (w .tidy j)
     ]
 
     rel-write : (v : Option (Option R)) (V : ℕ → List (Version R)) → Rel low (T .commits) (after v .turn) k (V k)
         → ((j : ℕ) → (j ≡ k → ⊥) → V j ≡ versions number σ j) → (j : ℕ) → Rel low (T .commits) (after v .turn) j (V j)
     rel-write v V r same j = elim (cases-eq j k) [
       | inl q ↦ subst (λ z. Rel low (T .commits) (after v .turn) z (V z)) (sym q) r
-      | inr q ↦
-          rw (same j q)
-          (rel-same low low (T .commits) (T .commits) (T .turn) (after v .turn) j (versions number σ j) (omega arith)
-          (same-at T s k (o .turn) (o .has) v j q) (w .rel j))
+      | inr q ↦ rw (same j q) (rel-same (same-at T s k (o .turn) (o .has) v j q) (omega arith) (w .rel j))
     ]
 
     agree-write : (v : Option (Option R)) (u : ℕ) → Agree number (session-at (σ .sessions) u .reading) (after v .turn u)
@@ -200,14 +202,14 @@ module _ {K R : Type 0} (number : K → ℕ) where
         → Freed T s key (with-memo (with-hot σ hot) memo) (Some None)
     freed-by hot memo front v back was now seen none so same =
         let calm : All (Calm-for s time) (front ++ (v ∷ back)) = rw was at (m .calm) in
-        let ended =
-        rel-end low (σ .clock) (T .commits) (T .turn) (after (Some None) .turn) k s front v back (w .tidy k) (rw was at (w .rel k))
-        (o .from) (o .upto) calm seen none (written (Some None)) in
-        let whole = whole-write (Some None) (λ h. ended .1) hot memo so (rw now (ended .0)) same in
+        let split : Ready low (σ .clock) (T .commits) (T .turn) k s (front ++ (v ∷ back)) = rw was at ready in
+        let had = had-seen front v back split seen none in
+        let ended = rel-end front v back split seen none (written (Some None)) in
+        let whole = whole-write (Some None) (λ h. had) hot memo so (rw now ended) same in
         let read = written (Some None) .read in
         let still : All (Calm-for s time) (versions-of hot memo k) =
-        rw now (all-put (Calm-for s time) front v _ back calm
-        (own-end (foreign-begin (v .begin) s time) (foreign-end (v .end) s time) s (all-at (Calm-for s time) front v back calm))) in
+        rw now (all-with front v _ back (Calm-for s time) calm
+        (own-end (foreign-begin (v .begin) s time) (foreign-end (v .end) s time) s (all-at front v back (Calm-for s time) calm))) in
         record {
           may = record {
             whole = whole;
@@ -221,5 +223,5 @@ module _ {K R : Type 0} (number : K → ℕ) where
             calm = subst (λ t. All (Calm-for s t) (versions-of hot memo k)) (sym read) still;
           };
           unseen = whole .rel k .mine s None (written (Some None) .its) _ (omega arith);
-          fits = rw (ended .1);
+          fits = rw had;
         }

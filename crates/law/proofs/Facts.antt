@@ -22,7 +22,7 @@ use Rattle.rules.specs.Selling.{begin-rule, commit-rule, has-marks, stale}
 use Rattle.versions.specs.History.{Turn, History, turn-writes, feed}
 use Rattle.cells.proofs.Cells.{Whole}
 use Rattle.cells.proofs.Sessions.{reader, closed-turn}
-use Rattle.cells.proofs.Telling.{marked-none}
+use Rattle.cells.proofs.Traces.{marked-none}
 use Rattle.law.specs.Runs.{Event, Step, Runs}
 use Rattle.law.proofs.Past.{Begin-fact, Commit-fact, Fact, Facts, feeds}
 use Rattle.law.proofs.Steps.{lent-own, session-ok, step-ok}

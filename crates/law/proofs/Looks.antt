@@ -30,10 +30,10 @@ use Rattle.versions.proofs.Versions.{wrote-above}
 use Rattle.cells.proofs.Cells.{Whole, Agree}
 use Rattle.cells.proofs.Sessions.{reader, read-time}
 use Rattle.cells.proofs.Looking.{lookup-is}
-use Rattle.cells.proofs.Walking.{found-all}
+use Rattle.cells.proofs.Found.{found-all}
 use Rattle.cells.proofs.Writes.{may-write}
 use Rattle.cells.proofs.OwnRows.{own-put}
-use Rattle.cells.proofs.Telling.{above-is}
+use Rattle.cells.proofs.Traces.{above-is}
 use Rattle.law.proofs.Steps.{lent-own, session-ok}
 use Rattle.law.proofs.Lines.{end-ledger}
 

@@ -32,11 +32,11 @@ use Rattle.rules.specs.Times.{begin-marked, end-marked, begin-above, end-above,
 use Rattle.slots.specs.Lists.{any, kept, one}
 use Rattle.slots.proofs.Folds.{none-all, all-none, all-both, all-then}
 use Rattle.versions.specs.History.{History, turn-writes}
-use Rattle.versions.proofs.Closing.{wrote-none}
+use Rattle.versions.proofs.Marks.{wrote-none}
 use Rattle.cells.proofs.Cells.{Cell, Whole, c-empty, c-plain, c-idle, c-chosen, c-copied, c-begun, c-ended, c-both, c-emptied}
 use Rattle.cells.proofs.Sessions.{closed-turn}
 use Rattle.cells.proofs.Shapes.{pair-self}
-use Rattle.cells.proofs.Telling.{above-is, none-marked}
+use Rattle.cells.proofs.Traces.{above-is, none-marked}
 
 module _ {X : Type 0} where
   -- what holds of all for each i holds of each element for all i

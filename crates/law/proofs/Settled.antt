@@ -23,9 +23,10 @@ use Rattle.slots.specs.Lists.{any, first, each, kept, one, one-if, list-of}
 use Rattle.slots.proofs.Folds.{none-all, all-none, all-both, all-then, all-every, each-same, each-each}
 use Rattle.slots.proofs.Edits.{kept-passes}
 use Rattle.versions.specs.History.{History, shown, fresh}
-use Rattle.versions.proofs.Versions.{Version, pub-begun, pub-ended, v-pub, rows, rows-append}
+use Rattle.versions.proofs.Versions.{Version, plain-begun, plain-ended, v-plain, rows}
+use Rattle.versions.proofs.Rows.{rows-append}
 use Rattle.cells.proofs.Beginning.{whole-opened}
-use Rattle.cells.proofs.Calm.{whole-collect}
+use Rattle.cells.proofs.Collecting.{whole-collect}
 use Rattle.cells.proofs.Cells.{Whole, hot-version, cold-version, hot-part, cold-part}
 use Rattle.cells.proofs.Splitting.{cond-one}
 use Rattle.law.specs.Law.{calls, hot-rows, cold-rows, Settled}
@@ -39,7 +40,7 @@ use Rattle.law.proofs.SweepsLeft.{Nearer, sweeps-left, sweeps-most, none-left,
 use Rattle.law.proofs.Tables.{same-start, same-all}
 
 -- a version with neither a mark nor a stamp above c, and with no end at or below c, is shown at c
-shown-at : (c : ℕ) (x : Begin) (y : End) → Done-by c x y → end-past y c ≡ false → (pub-begun c x && not (pub-ended c y)) ≡ true
+shown-at : (c : ℕ) (x : Begin) (y : End) → Done-by c x y → end-past y c ≡ false → (plain-begun c x && not (plain-ended c y)) ≡ true
 shown-at c (b.Stamp n) e.Open d stays = let low = d .1 in grind (arith, tells)
 shown-at c (b.Stamp n) (e.Stamp m) d stays = let low = d .1 in grind (arith, tells)
 shown-at c (b.Stamp n) (e.Mark m) d stays = absurd (both-ways (eqb m m) (d .0 m) (eq-eqb m m refl))
@@ -62,7 +63,7 @@ module _ {K R : Type 0} (number : K → ℕ) where
   module _ (σ : Store K R) (T : History R) (w : Whole number σ T) (rest : Resting σ) (no-memo : σ .memo ≡ [])
       (stay : All (λ h. row-stays (σ .clock) h ≡ true) (σ .hot)) (k : ℕ) where
     abbrev shown-now : Version R → Bool
-    shown-now = v-pub (σ .clock)
+    shown-now = v-plain (σ .clock)
 
     hot-shown : rows shown-now (hot-part number (σ .hot) k) ≡ hot-rows K R number k σ
     hot-shown = each-each _ (hot-version number k) (σ .hot) ∙ each-same _ _ (σ .hot)

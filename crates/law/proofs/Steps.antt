@@ -27,7 +27,8 @@ use Rattle.rules.specs.Selling.{begin-rule, read-rule, put-rule, drop-rule, com
 use Rattle.rules.specs.Moving.{choose-rule, copy-rule, settle-rule, give-up-rule, sweep-rule, collect-rule, choose-row, copy-row, settle-row, sweep-notice, movable, row-chosen, row-copied, row-bears, unmoved, due}
 use Rattle.versions.specs.History.{History, feed}
 use Rattle.cells.proofs.Cells.{Whole}
-use Rattle.cells.proofs.Calm.{whole-collect, whole-give-up}
+use Rattle.cells.proofs.Collecting.{whole-collect}
+use Rattle.cells.proofs.GivingUp.{whole-give-up}
 use Rattle.cells.proofs.Choosing.{whole-choose}
 use Rattle.cells.proofs.Copying.{whole-copy}
 use Rattle.cells.proofs.Settling.{whole-settle}

@@ -22,7 +22,8 @@ use Rattle.versions.proofs.Versions.{writes-of, wrote-above}
 use Rattle.cells.proofs.Cells.{Agree, Whole}
 use Rattle.cells.proofs.Sessions.{Reader, reader, read-time}
 use Rattle.cells.proofs.Looking.{lookup-is}
-use Rattle.cells.proofs.Telling.{bool-eq, conflict-same, above-is, marked-none, none-marked}
+use Rattle.cells.proofs.Conflicts.{conflict-same}
+use Rattle.cells.proofs.Traces.{bool-eq, above-is, marked-none, none-marked}
 
 map-kept : {X Y : Type 0} (f : X → Y) (p : Y → Bool) (xs : List X) → map f (kept (λ x. p (f x)) xs) ≡ kept p (map f xs)
 unfolding kept

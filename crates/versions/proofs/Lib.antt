@@ -1,5 +1,13 @@
-pub mod Lists
 pub mod Versions
-pub mod Quiet
+pub mod Rows
+pub mod Swapping
+pub mod Same
+pub mod Fewer
+pub mod Marks
 pub mod Closing
+pub mod Stamping
+pub mod Undoing
+pub mod OneVersion
+pub mod Seeing
 pub mod Writing
+pub mod Edits
