@@ -1,9 +1,13 @@
-// Reads an archive's text, packs each of its records and reads it back, and writes what it found.
+// Reads an archive's text, packs each of its records and reads it back, loads them into two stores behind two filters and finds them
+// again, and writes what it found.
+use loading::report::answer;
 use records::report::LIMIT;
-use records::report::answer;
 use std::io;
 use std::io::Read;
 use std::io::Write;
+
+#[cfg(test)]
+mod tests;
 
 fn main(rt: LibcRuntime) -> io::Result<()> {
     let mut input = Vec::new(rt.alloc());

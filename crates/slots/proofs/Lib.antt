@@ -3,4 +3,4 @@ pub mod Edits
 pub mod Few
 pub mod Hits
 pub mod Slots
-mod Loops
+pub mod Loops

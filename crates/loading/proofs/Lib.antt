@@ -1,0 +1,4 @@
+pub mod Finds
+pub mod Loops
+pub mod Texts
+pub mod Whole

@@ -1,0 +1,4 @@
+pub mod every;
+pub mod finding;
+pub mod report;
+pub mod writing;

@@ -1,0 +1,4 @@
+pub mod Due
+pub mod Grown
+pub mod Hands
+pub mod Opened

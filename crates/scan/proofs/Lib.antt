@@ -1,0 +1,4 @@
+pub mod Hitting
+pub mod Lookups
+pub mod Undone
+pub mod Walking

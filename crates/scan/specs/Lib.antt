@@ -1,0 +1,4 @@
+pub mod Bare
+pub mod Places
+pub mod Told
+pub mod Undoing
