@@ -22,7 +22,7 @@ use Rattle.records.specs.declared.record.Record.{Record}
 row-is : (r : ListingRow) → row-from (r .price) (r .seats) (r .seller) ≡ r
 row-is r = listing-ext _ r (mod-eq-of-lt (r .fits .0)) (mod-eq-of-lt (r .fits .1)) (mod-eq-of-lt (r .fits .2))
 
-listing-is : (k : Listing) → listing (k .id) ≡ k
+pub listing-is : (k : Listing) → listing (k .id) ≡ k
 listing-is k = same-record (λ (n : ℕ). n < 2 ^ 64) (λ n p. record { id = n; fits = p }) (λ n p q. le-prop p q) (listing (k .id) .id) (k .id)
     (listing (k .id) .fits) (k .fits) (mod-eq-of-lt (k .fits))
 

@@ -42,7 +42,7 @@ pub fn listing_row(value: &[u8]) -> Option<ListingRow>
 }
 
 // The number of a word k=NUMBER.
-fn key_in(word: Word<'_>) -> Option<u64>
+pub fn key_in(word: Word<'_>) -> Option<u64>
     ensures value { λ r. ⌜ r ≡ key-in (meant (word .entry)) ⌝ }
     ensures bound { λ r. ⌜ found r (λ n. n ≤ 18446744073709551615) ⌝ }
 {
@@ -53,7 +53,7 @@ fn key_in(word: Word<'_>) -> Option<u64>
 }
 
 // The row of a word v=PRICE,SEATS,SELLER.
-fn row_in(word: Word<'_>) -> Option<ListingRow>
+pub fn row_in(word: Word<'_>) -> Option<ListingRow>
     ensures { λ r. ⌜ r ≡ row-in (meant (word .entry)) ⌝ }
 {
     match word {

@@ -8,7 +8,7 @@ use crate::parts::count_to;
 use crate::word::Word;
 
 // Whether two texts are the same.
-fn is_same(a: &[u8], b: &[u8]) -> bool
+pub fn is_same(a: &[u8], b: &[u8]) -> bool
     ensures { λ r. ⌜ r ≡ same (now (a .entry)) (now (b .entry)) ⌝ }
 {
     if a.len() != b.len() {
