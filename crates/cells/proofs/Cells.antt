@@ -1,7 +1,7 @@
 -- What a store is held to. For each pair of a key number and a tag the notices, the cold entries and the hot rows on the
 -- move with that pair are in one of nine shapes, `Cell`. `versions` are the versions of a key that a store gives, and
 -- `Whole` joins the cells, the versions of every key, the sessions and the clock with the history of the run.
-use Rattle.std.proofs.Common.{◌≡◌, ℕ, ◌+◌, ◌-◌, ◌<◌, ◌≤◌, Bool, true, false, cond, ◌&&◌, eqb, List, [], ◌++◌, length, Some, None, Option}
+use Rattle.std.proofs.Common.{◌≡◌, ℕ, ◌<◌, ◌≤◌, Bool, true, false, cond, ◌&&◌, eqb, List, [], ◌++◌, length, Some, None, Option}
 use Rattle.std.specs.List.{AllByRecursion as All}
 use Rattle.rules.specs.declared.tables.End.{End}
 use Rattle.rules.specs.declared.tables.HotRow.{HotRow}

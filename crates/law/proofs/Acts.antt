@@ -11,7 +11,7 @@ use Rattle.rules.specs.Outcomes.{if_served}
 use Rattle.rules.specs.Refusals.{is_stale}
 use Rattle.slots.specs.Lists.{any}
 use Rattle.versions.specs.Writes.{over, upd}
-use Rattle.versions.specs.History.{Commit, Turn, History, shown, turn_writes, turn_read, with_turn, wrote, had, closes, commits_at, feed, feed_commit}
+use Rattle.versions.specs.History.{Turn, History, shown, turn_writes, turn_read, with_turn, wrote, had, closes, commits_at, feed, feed_commit}
 use Rattle.law.specs.Runs.{Event}
 use Rattle.law.specs.Single.{Table}
 use Rattle.law.specs.Episodes.{closes_by, commit_closes, own_act, own_acts}

@@ -16,7 +16,7 @@ use Rattle.cells.proofs.Cells.{Whole}
 use Rattle.cells.proofs.Beginning.{whole_opened}
 use Rattle.law.specs.Runs.{Event, Step, Runs, Opening, Served, at_opening, answering}
 use Rattle.law.specs.Single.{Table, all_fed, at_start}
-use Rattle.law.specs.Episodes.{closes, begin_of, read_of, drop_of, commit_of, Committed, place, placed, own_acts}
+use Rattle.law.specs.Episodes.{closes, begin_of, read_of, drop_of, commit_of, Committed, place, own_acts}
 use Rattle.law.specs.Law.{Serial, table_before, place_of}
 use Rattle.law.proofs.Past.{Past, Facts, feeds, past_fresh, past_step}
 use Rattle.law.proofs.Tables.{Same, same_start, same_all, past_all}

@@ -1,3 +1,5 @@
+#![tactic(auto)]
+
 ghost use Rattle.law.specs.Law.{Law};
 ghost use Rattle.law.specs.Sample.{SampleRun};
 ghost use Rattle.law.specs.Tempting.{Tempting};

@@ -8,7 +8,7 @@ use Rattle.rules.specs.declared.tables.Begin.{Begin}
 use Rattle.rules.specs.declared.tables.End.{End}
 use Rattle.rules.specs.declared.tables.Begin.TheVariants as b
 use Rattle.rules.specs.declared.tables.End.TheVariants as e
-use Rattle.rules.specs.Times.{sees, begun, ended, begin_marked, end_marked, begin_above, end_above, foreign_begin, foreign_end}
+use Rattle.rules.specs.Times.{begun, ended, begin_marked, end_marked, begin_above, end_above, foreign_begin, foreign_end}
 use Rattle.slots.proofs.Folds.{all_then}
 use Rattle.versions.proofs.Versions.{Version, plain_begun, plain_ended, v_plain, v_sees, v_above, rows}
 use Rattle.versions.proofs.Rows.{rows_same}
