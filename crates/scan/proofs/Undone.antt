@@ -1,5 +1,5 @@
 -- Undoing in two steps is undoing as the rules say.
-use Rattle.std.proofs.Common.{◌≡◌, ℕ, Bool, true, false, cond, not, ◌||◌, eqb, List, [], ◌∷◌, ◌++◌, map, is_some, Some, None, Option, sym, refl, ap, ◌∙◌, inl, inr}
+use Rattle.std.proofs.Common.{◌≡◌, ℕ, Bool, true, false, cond, not, ◌||◌, List, [], ◌∷◌, map, is_some, Some, None, Option, sym, refl, ap, inl, inr}
 use Rattle.std.proofs.lemmas.Bool.{cases_Bool, both_ways}
 use Rattle.slots.specs.Lists.{each, kept, one}
 use Rattle.rules.specs.declared.tables.End.{End}
@@ -10,8 +10,8 @@ use Rattle.rules.specs.declared.tables.Notice.{Notice}
 use Rattle.rules.specs.declared.notices.NoticeEvent.TheVariants.{Abandon}
 use Rattle.rules.specs.Times.{begin_marked, end_marked, reopen}
 use Rattle.rules.specs.Notices.{becomes}
-use Rattle.rules.specs.Selling.{kind_or, undo_row, undo_notice, unended, notice_marked}
-use Rattle.scan.specs.Undoing.{row_stays, reopen_row, notice_stays, reopen_notice, reopen_kind}
+use Rattle.rules.specs.Selling.{kind_or, undo_row, undo_notice, unended}
+use Rattle.scan.specs.Undoing.{row_stays, reopen_row, notice_stays, reopen_notice}
 
 -- what f gives for each is g of those that are kept, where f gives nothing for the others
 pub each_is_kept : {X Y : Type 0} (f : X → List Y) (g : X → Y) (q : X → Bool) → ((x : X) → f x ≡ cond (q x) (one (g x)) []) → (xs : List X)

@@ -1,4 +1,6 @@
 // What the seller calls ask of the lent tables, and how they change one element: read-only passes, element tests and edits.
+#![tactic(auto)]
+
 pub mod checks;
 pub mod edits;
 pub mod look;

@@ -1,4 +1,6 @@
 // The seller's calls on a store whose sheet and tables are lent: open, begin, read, put, drop, commit, abandon.
+#![tactic(auto)]
+
 pub mod abandon;
 mod admit;
 pub mod begin;

@@ -1,4 +1,4 @@
-use Rattle.std.proofs.Common.{◌≡◌, ℕ, ◌+◌, length, take, Some, sym, refl, ap, ◌∙◌, arith, rules}
+use Rattle.std.proofs.Common.{ℕ, ◌+◌, take, Some, sym, refl, ap, ◌∙◌, arith, rules}
 use Rattle.cold.specs.declared.store.Found.{Found}
 use Rattle.cold.proofs.Meaning.{length_own}
 use Rattle.rules.specs.Looking.{noted_sees, notice_for}

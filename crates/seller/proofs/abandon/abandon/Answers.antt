@@ -15,7 +15,7 @@ returns-in_err-admit g c =
     c.in_err-admit.ensures in
     record {
       answer = λ es limit admits.
-          ap told_done (left_by c.from-residual.result _ c.from-residual.ensures.1) ∙ ap answer_of (given es limit admits);
+          ap told_done (left_by c.from_residual.result _ c.from_residual.ensures.1) ∙ ap answer_of (given es limit admits);
       after = λ es limit admits. ap after_of (given es limit admits);
     }
 

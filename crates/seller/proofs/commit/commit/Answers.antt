@@ -15,7 +15,7 @@ returns-in_err-reading g c =
     (store c.args.sheet.now c.args.hot.now c.args.memo.now c.args.ledger.now es limit admits) c.args.session c.in_err-reading.ensures in
     record {
       answer = λ es limit admits.
-          ap told_at (left_by c.from-residual.result _ c.from-residual.ensures.1) ∙ ap answer_of (given es limit admits);
+          ap told_at (left_by c.from_residual.result _ c.from_residual.ensures.1) ∙ ap answer_of (given es limit admits);
       after = λ es limit admits. ap after_of (given es limit admits);
     }
 

@@ -13,7 +13,7 @@ returns-in_err-reading g c =
     (g.C.ColdStore.entries c.args.cold.now) (g.C.ColdStore.limit c.args.cold.now) (g.F.Filter.admitted c.args.filter.now)
     c.args.session c.args.key c.in_err-reading.ensures in
     record {
-      answer = ap told_was (left_by c.from-residual.result _ c.from-residual.ensures.1) ∙ ap answer_of given;
+      answer = ap told_was (left_by c.from_residual.result _ c.from_residual.ensures.1) ∙ ap answer_of given;
       after = ap after_of given;
     }
 
@@ -39,10 +39,12 @@ invariant_of-sheet-in-Some g c =
     let w = entered c.args.sheet.now c.args.hot.now c.args.memo.now c.args.ledger.now c.args.session c.in_ok-reading.ensures in
     let rows = without_count (length c.args.hot.now) sheet.hot_used c.in-Some.at in
     let lines = lined_count c.is_line_new-note.result (length c.args.ledger.now) sheet.ledger_used
-    (omega (arith, w.ledger_long, sheet.ledger_fits)) in (
-      omega (arith, sheet.hot_fits, c.take_out-rows.ensures.count),
-      (sheet.memo_fits, (omega (arith, w.ledger_long, c.note_line-lines.ensures.count), tt)),
-    )
+    (omega (arith, w.ledger_long, sheet.ledger_fits)) in
+    record {
+      hot_fits = omega (arith, sheet.hot_fits, c.take_out-rows.ensures.count);
+      memo_fits = sheet.memo_fits;
+      ledger_fits = omega (arith, w.ledger_long, c.note_line-lines.ensures.count);
+    }
 
 pub returns-in-Some : goal.returns-in-Some
 returns-in-Some g c =
@@ -61,7 +63,7 @@ returns-in_err-ending g c =
     c.if-is_conflict.ensures c.is_line_new-note.result c.is_line_new-note.ensures c.if-is_ledger_short.ensures (sym c.in_default.is ∙ c.place_of.ensures) c.lookup-looked.result c.lookup-looked.ensures
     (leb c.args.sheet.now.memo_length c.args.sheet.now.memo_used) refl c.in_err-ending.ensures in
     record {
-      answer = ap told_was (left_by c.from-residual-in_err-ending.result _ c.from-residual-in_err-ending.ensures.1) ∙ ap answer_of given;
+      answer = ap told_was (left_by c.from_residual-in_err-ending.result _ c.from_residual-in_err-ending.ensures.1) ∙ ap answer_of given;
       after = ap after_of given;
     }
 
@@ -72,13 +74,12 @@ invariant_of-sheet-2 g c =
     let notices = ended_count c.in_ok-ending.ending (length c.args.memo.now) sheet.memo_used
     (omega (arith, w.memo_long, sheet.memo_fits)) in
     let lines = lined_count c.is_line_new-note.result (length c.args.ledger.now) sheet.ledger_used
-    (omega (arith, w.ledger_long, sheet.ledger_fits)) in (
-      sheet.hot_fits,
-      (
-        omega (arith, w.memo_long, c.end_version-notices.ensures.count),
-        (omega (arith, w.ledger_long, c.note_line-lines-2.ensures.count), tt),
-      ),
-    )
+    (omega (arith, w.ledger_long, sheet.ledger_fits)) in
+    record {
+      hot_fits = sheet.hot_fits;
+      memo_fits = omega (arith, w.memo_long, c.end_version-notices.ensures.count);
+      ledger_fits = omega (arith, w.ledger_long, c.note_line-lines-2.ensures.count);
+    }
 
 pub returns : goal.returns
 returns g c =

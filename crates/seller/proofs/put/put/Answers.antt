@@ -12,7 +12,7 @@ returns-in_err-reading g c =
     (g.C.ColdStore.entries c.args.cold.now) (g.C.ColdStore.limit c.args.cold.now) (g.F.Filter.admitted c.args.filter.now)
     c.args.session c.args.key c.args.row c.in_err-reading.ensures in
     record {
-      answer = ap told_done (left_by c.from-residual.result _ c.from-residual.ensures.1) ∙ ap answer_of given;
+      answer = ap told_done (left_by c.from_residual.result _ c.from_residual.ensures.1) ∙ ap answer_of given;
       after = ap after_of given;
     }
 
@@ -48,7 +48,7 @@ returns-in_err-ending g c =
     c.if-is_conflict.ensures (sym c.in_default.is ∙ c.place_of.ensures) c.if-sheet.false c.lookup-looked.result c.lookup-looked.ensures
     (leb c.args.sheet.now.memo_length c.args.sheet.now.memo_used) refl c.in_err-ending.ensures in
     record {
-      answer = ap told_done (left_by c.from-residual-in_err-ending.result _ c.from-residual-in_err-ending.ensures.1) ∙ ap answer_of given;
+      answer = ap told_done (left_by c.from_residual-in_err-ending.result _ c.from_residual-in_err-ending.ensures.1) ∙ ap answer_of given;
       after = ap after_of given;
     }
 
@@ -59,10 +59,12 @@ invariant_of-sheet-2 g c =
     let rows = with_count (length c.end_version-notices.new.hot) sheet.hot_used
     (omega (arith, w.hot_long, sheet.hot_fits, c.end_version-notices.auto.hot)) in
     let notices = ended_count c.in_ok-ending.ending (length c.args.memo.now) sheet.memo_used
-    (omega (arith, w.memo_long, sheet.memo_fits)) in (
-      omega (arith, w.hot_long, c.append-rows.ensures.count, c.end_version-notices.auto.hot),
-      (omega (arith, w.memo_long, c.end_version-notices.ensures.count), (sheet.ledger_fits, tt)),
-    )
+    (omega (arith, w.memo_long, sheet.memo_fits)) in
+    record {
+      hot_fits = omega (arith, w.hot_long, c.append-rows.ensures.count, c.end_version-notices.auto.hot);
+      memo_fits = omega (arith, w.memo_long, c.end_version-notices.ensures.count);
+      ledger_fits = sheet.ledger_fits;
+    }
 
 pub returns : goal.returns
 returns g c =

@@ -15,7 +15,7 @@ returns-in_err-reading g c =
     (g.C.ColdStore.entries c.args.cold.now) (g.C.ColdStore.limit c.args.cold.now) (g.F.Filter.admitted c.args.filter.now)
     c.args.session c.args.key c.in_err-reading.ensures in
     record {
-      answer = ap told_row (left_by c.from-residual.result _ c.from-residual.ensures.1) ∙ ap answer_of given;
+      answer = ap told_row (left_by c.from_residual.result _ c.from_residual.ensures.1) ∙ ap answer_of given;
       after = ap after_of given;
     }
 
@@ -34,7 +34,7 @@ invariant_of-sheet-2 g c =
     let sheet = c.args.sheet.now in
     let long = (entered c.args.sheet.now c.args.hot.now c.args.memo.now c.args.ledger.now c.args.session c.in_ok-reading.ensures).ledger_long in
     let bound = lined_count c.is_line_new-note.result (length c.args.ledger.now) sheet.ledger_used (omega (arith, sheet.ledger_fits)) in
-    (sheet.hot_fits, (sheet.memo_fits, (omega (arith, c.note_line-lines.ensures.count), tt)))
+    record { hot_fits = sheet.hot_fits; memo_fits = sheet.memo_fits; ledger_fits = omega (arith, c.note_line-lines.ensures.count) }
 
 pub returns : goal.returns
 returns g c =
