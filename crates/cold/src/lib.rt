@@ -1,3 +1,5 @@
+#![tactic(auto)]
+
 pub mod halving;
 pub mod sorted;
 pub mod store;

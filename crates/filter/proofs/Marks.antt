@@ -1,5 +1,5 @@
 use Rattle.std.proofs.Common.{◌≡◌, ℕ, zero, suc, ◌+◌, ◌-◌, ◌*◌, ◌/◌, ◌%◌, ◌^◌, ◌<◌, ◌≤◌, Bool, true, false, ◌&&◌, ◌||◌, eqb, List, length, get_or, set, replicate, sym, refl, ap, ◌∙◌, ⊎_elim, arith}
-use native.Mathlib.Nat.{div_self, div_eq_of_lt, mul_div_cancel_left, mul_mod_right, pow_succ'}
+use native.Mathlib.Nat.{div_self, div-eq_of_lt, mul-div_cancel_left, mul-mod_right, pow-succ'}
 use lib.Bits.{bit_or, bit_and, or_shr, or_mod, or_zero_r, and_mask}
 use Rattle.std.proofs.lemmas.Nat.{pow_pos, pow-add, pow_below, one_shl}
 use Rattle.std.proofs.lemmas.Bool.{and_parts, and_from, or_left, or_right, cases_eq, cases_lt, eq-eqb, ne_eqb}
@@ -16,9 +16,9 @@ no_bit j k n =
     (λ (h : j < k).
     let m : k ≡ j + suc (k - j - 1) = omega arith in
     ap (λ x. 2 ^ x / 2 ^ j % 2) m ∙ ap (λ x. x / 2 ^ j % 2) (pow-add 2 j (suc (k - j - 1)))
-    ∙ ap (λ x. x % 2) (mul_div_cancel_left (2 ^ suc (k - j - 1)) (pow_pos j))
-    ∙ ap (λ x. x % 2) (pow_succ' 2 (k - j - 1)) ∙ mul_mod_right 2 (2 ^ (k - j - 1)))
-    (λ (h : k ≤ j). ap (λ x. x % 2) (div_eq_of_lt (pow_below k j
+    ∙ ap (λ x. x % 2) (mul-div_cancel_left (2 ^ suc (k - j - 1)) (pow_pos j))
+    ∙ ap (λ x. x % 2) (pow-succ' 2 (k - j - 1)) ∙ mul-mod_right 2 (2 ^ (k - j - 1)))
+    (λ (h : k ≤ j). ap (λ x. x % 2) (div-eq_of_lt (pow_below k j
     (let z : k < j = ⊎_elim (λ (q : k < j). q) (λ (q : j ≤ k). absurd (n (let y : j ≡ k = omega arith in y))) (cases_lt k j) in z))))
     (cases_lt j k)
 
@@ -111,7 +111,7 @@ bloom_none n h e =
     ∙ zero_first (h % 4096 % 64) _
   where
     zero_first : (k : ℕ) (b : Bool) → (eqb (0 / 2 ^ k % 2) 1 && b) ≡ false
-    zero_first k b = ap (λ x. eqb (x % 2) 1 && b) (div_eq_of_lt (pow_pos k))
+    zero_first k b = ap (λ x. eqb (x % 2) 1 && b) (div-eq_of_lt (pow_pos k))
 
 pub test_is : (w k : ℕ) → bit_and (w / 2 ^ k) 1 ≡ w / 2 ^ k % 2
 test_is w k = and_mask (w / 2 ^ k) 1

@@ -1,4 +1,4 @@
-use Rattle.std.specs.Prelude.{ℕ, ◌+◌, ◌/◌, ◌%◌, ◌^◌, Bool, ◌&&◌, ◌||◌, List, set, ◌==◌, bit_or, slice_index, slice_set}
+use Rattle.std.specs.Prelude.{ℕ, ◌+◌, ◌/◌, ◌%◌, ◌^◌, Bool, ◌&&◌, ◌||◌, List, ◌==◌, bit_or, slice_index, slice_set}
 use Rattle.filter.specs.declared.bloom.ThreePlaces.{ThreePlaces}
 
 -- the bit at a place, 64 to a word, lowest first

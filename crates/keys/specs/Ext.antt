@@ -1,5 +1,5 @@
-use Rattle.std.specs.Prelude.{◌≡◌, ℕ, ◌^◌, ◌<◌, refl}
-use Rattle.std.proofs.Common.{sym, ◌∙◌, ap, subst}
+use Rattle.std.specs.Prelude.{◌≡◌, ℕ, ◌^◌, ◌<◌}
+use Rattle.std.proofs.Common.{◌∙◌, ap, subst}
 use Rattle.std.proofs.Math.Bridge.{le_prop}
 use Rattle.keys.specs.declared.rows.ListingRow.{ListingRow}
 use Rattle.keys.specs.declared.rows.Word32.{Word32}
@@ -20,3 +20,6 @@ listing_ext a b e f g =
     same_record (λ (t : ℕ × ℕ × ℕ). (t.0 < 2 ^ 32) × (t.1 < 2 ^ 32) × (t.2 < 2 ^ 16)) (λ t p. record { price = t.0; seller = t.1; seats = t.2; fits = p })
     (λ t p q. triple p q (le_prop p.0 q.0) (le_prop p.1 q.1) (le_prop p.2 q.2))
     (a.price, a.seller, a.seats) (b.price, b.seller, b.seats) a.fits b.fits (triple _ _ e f g)
+
+pub two_orders : {m n : ℕ} (t : ℕ × ℕ) (p q : (t.0 < m) × (t.1 < n)) → p ≡ q
+two_orders t p q = ap (λ x. (x, p.1)) (le_prop p.0 q.0) ∙ ap (λ y. (q.0, y)) (le_prop p.1 q.1)

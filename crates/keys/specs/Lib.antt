@@ -3,3 +3,4 @@ pub mod Packing
 pub mod Low
 pub mod Ext
 pub mod ListingPackedLemmas
+pub mod CaseNumber

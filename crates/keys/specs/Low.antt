@@ -1,7 +1,7 @@
 use Rattle.std.specs.Prelude.{◌≡◌, ℕ, zero, suc, ◌+◌, ◌-◌, ◌*◌, ◌/◌, ◌%◌, ◌^◌, ◌<◌, ◌≤◌, List, [], ◌∷◌, ◌++◌, length, take, drop, slice_index, slice_set, refl}
-use Rattle.std.proofs.Common.{sym, ◌∙◌, ap, subst, arith, add-one, rules, lit<, mod-lt, mod-eq_of_lt}
+use Rattle.std.proofs.Common.{sym, ◌∙◌, ap, arith, lit<, mod-lt, mod-eq_of_lt}
 use Rattle.std.proofs.Math.Nat.{one-le-pow, pow-succ', pow-le-pow_right}
-use Rattle.std.proofs.lemmas.List.{take_more_set, append_assoc, drop_more, append-nil, take_all, length-drop, get_or-drop, at_drop_all, append_cancel_left, take-append-drop, take_at, drop_at, length-append, drop_all, length-take, drop-drop, set_split}
+use Rattle.std.proofs.lemmas.List.{take_more_set, append_assoc, drop_more, append-nil, take_all, length-drop, get_or-drop, take_at, drop_at, length-append, drop_all, length-take, drop-drop, set_split}
 use borrow.Rule.Slice.PartMut.{put_mid, post_of}
 use Rattle.keys.specs.Bytes.{low_bytes, from_low}
 use Rattle.keys.specs.Bytes.{low}

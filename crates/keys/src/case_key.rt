@@ -1,5 +1,6 @@
-ghost use Rattle.std.specs.Prelude.{◌+◌, ◌*◌, ◌^◌, ◌<◌};
-ghost use Rattle.std.proofs.Common.{rules, arith};
+ghost use Rattle.std.specs.Prelude.{ℕ, ◌+◌, ◌*◌, ◌^◌, ◌<◌};
+ghost use Rattle.keys.specs.Ext.{same_record, two_orders};
+ghost use Rattle.keys.specs.CaseNumber.{case_fits, case_parts_same};
 
 use crate::key::{Key, OrderedKey};
 
@@ -14,9 +15,12 @@ pub struct CaseKey {
 impl Key for CaseKey {
     ghost number = { λ k. k.seller * 65536 + k.serial };
 
-    ghost fits = { first_of (Prim.search rules, Prim.grind (arith, Self.row.coded.inj)) };
+    ghost fits = { λ k. case_fits k.seller k.serial k.fits.0 k.fits.1 };
 
-    ghost same = { first_of (Prim.search rules, Prim.grind (arith, Self.row.coded.inj)) };
+    ghost same = { λ a b e.
+        same_record (λ (t : ℕ × ℕ). (t.0 < 2 ^ 32) × (t.1 < 2 ^ 16)) (λ t p. record { seller = t.0; serial = t.1; fits = p }) two_orders
+        (a.seller, a.serial) (b.seller, b.serial) a.fits b.fits
+        (case_parts_same a.seller b.seller a.serial b.serial a.fits.1 b.fits.1 e) };
 
     fn number(&self) -> u64 {
         u64::from(self.seller) * 65536 + u64::from(self.serial)

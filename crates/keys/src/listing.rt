@@ -1,5 +1,6 @@
-ghost use Rattle.std.specs.Prelude.{◌^◌, ◌<◌};
-ghost use Rattle.std.proofs.Common.{rules, arith};
+ghost use Rattle.std.specs.Prelude.{ℕ, ◌^◌, ◌<◌};
+ghost use Rattle.std.proofs.Math.Bridge.{le_prop};
+ghost use Rattle.keys.specs.Ext.{same_record};
 
 use crate::key::{Key, OrderedKey};
 
@@ -13,9 +14,9 @@ pub struct Listing {
 impl Key for Listing {
     ghost number = { λ k. k.id };
 
-    ghost fits = { first_of (Prim.search rules, Prim.grind (arith, Self.row.coded.inj)) };
+    ghost fits = { λ k. k.fits };
 
-    ghost same = { first_of (Prim.search rules, Prim.grind (arith, Self.row.coded.inj)) };
+    ghost same = { λ a b e. same_record (λ (n : ℕ). n < 2 ^ 64) (λ n p. record { id = n; fits = p }) (λ n p q. le_prop p q) a.id b.id a.fits b.fits e };
 
     fn number(&self) -> u64 {
         self.id

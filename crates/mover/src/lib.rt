@@ -1,4 +1,6 @@
 // Moving rows from the hot table to the cold store, and clearing up after the moves and the sessions.
+#![tactic(auto)]
+
 pub mod choose;
 pub mod collect;
 pub mod copy;

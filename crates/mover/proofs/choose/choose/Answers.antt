@@ -96,7 +96,7 @@ invariant_of-sheet g c =
     let e = sym c.if-not-are_opened.ensures in
     let room = memos_are (lent hot memo ledger) (lengths_of sheet) e in
     let k = count_with_more (length memo) sheet.memo_used (omega arith) in
-    (sheet.hot_fits, (omega (arith, c.append-notices.ensures.count), (sheet.ledger_fits, tt)))
+    record { hot_fits = sheet.hot_fits; memo_fits = omega (arith, c.append-notices.ensures.count); ledger_fits = sheet.ledger_fits }
 
 pub returns-else-sheet : goal.returns-else-sheet
 returns-else-sheet g c =

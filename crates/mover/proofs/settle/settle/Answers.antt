@@ -14,7 +14,7 @@ invariant_of-sheet g c =
     let sheet = c.args.sheet.now in
     let k = count_without_within (length c.args.hot.now) sheet.hot_used c.in-Some.hit.at in
     let h = sheet.hot_fits in
-    (omega (arith, c.take_out-rows.ensures.count), (sheet.memo_fits, (sheet.ledger_fits, tt)))
+    record { hot_fits = omega (arith, c.take_out-rows.ensures.count); memo_fits = sheet.memo_fits; ledger_fits = sheet.ledger_fits }
 
 pub returns-in-None : goal.returns-in-None
 returns-in-None g c =

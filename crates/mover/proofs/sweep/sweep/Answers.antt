@@ -13,7 +13,7 @@ invariant_of-sheet g c =
     let sheet = c.args.sheet.now in
     let k = count_without_within (length c.args.memo.now) sheet.memo_used c.in-Some.hit.at in
     let h = sheet.memo_fits in
-    (sheet.hot_fits, (omega (arith, c.take_out-notices.ensures.count), (sheet.ledger_fits, tt)))
+    record { hot_fits = sheet.hot_fits; memo_fits = omega (arith, c.take_out-notices.ensures.count); ledger_fits = sheet.ledger_fits }
 
 pub returns-in-None : goal.returns-in-None
 returns-in-None g c =
