@@ -1,5 +1,7 @@
 // Reads an archive's text, packs each of its records and reads it back, loads them into two stores behind two filters and finds them
 // again, and writes what it found.
+#![tactic(auto)]
+
 use loading::report::answer;
 use records::report::LIMIT;
 use std::io;

@@ -11,6 +11,7 @@ fn nothing(rt: HostRuntime) -> Result<(), Fail> {
             == b"loaded sorted=0 blocks=0\n\
 absent k=0 bloom=0 band=0 sorted=none blocks=none\n\
 records=0\n"
+                .as_slice()
     );
     Ok(())
 }
@@ -30,6 +31,7 @@ found k=8192 sorted=7,8,9 blocks=7,8,9\n\
 loaded sorted=3 blocks=3\n\
 absent k=8193 bloom=1 band=0 sorted=none blocks=none\n\
 records=3\n"
+                .as_slice()
     );
     Ok(())
 }
@@ -39,6 +41,6 @@ records=3\n"
 fn too_long(rt: HostRuntime) -> Result<(), Fail> {
     let input = vec![in rt.alloc(); b'\n'; LIMIT + 1]?;
     let out = answer(rt.alloc(), &input)?;
-    assert!(rt; out.as_slice() == b"bad=size\n");
+    assert!(rt; out.as_slice() == b"bad=size\n".as_slice());
     Ok(())
 }

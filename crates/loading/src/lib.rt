@@ -1,3 +1,5 @@
+#![tactic(auto)]
+
 pub mod every;
 pub mod finding;
 pub mod report;

@@ -116,7 +116,7 @@ fn load_both<
     requires sorted { in_order (A.ColdStore.entries sorted.old) ≡ true }
     requires blocks { in_order (B.ColdStore.entries blocks.old) ≡ true }
     requires few { length records.now < 2 ^ 32 - 1 }
-    ensures* { λ r. ⌜ IfOk r (λ _.
+    ensures { OnOk result (
         (out.new.items
         ≡ out.old.items
         ++ loads_text (F.Filter.admitted bloom.new) (G.Filter.admitted band.new)
@@ -127,7 +127,7 @@ fn load_both<
         × (A.ColdStore.entries sorted.new
         ≡ loaded (A.ColdStore.limit sorted.old) (A.ColdStore.entries sorted.old) 1 records.now)
         × (B.ColdStore.entries blocks.new
-        ≡ loaded (B.ColdStore.limit blocks.old) (B.ColdStore.entries blocks.old) 1 records.now)) ⌝ }
+        ≡ loaded (B.ColdStore.limit blocks.old) (B.ColdStore.entries blocks.old) 1 records.now)) }
 {
     add_all(bloom, records);
     add_all(band, records);

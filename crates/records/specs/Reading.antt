@@ -1,5 +1,5 @@
 -- The rows and records that texts hold.
-use Rattle.std.specs.Prelude.{ℕ, ◌%◌, ◌^◌, List, [], ◌∷◌, map, Some, None, Option}
+use Rattle.std.specs.Prelude.{ℕ, ◌%◌, ◌^◌, List, [], ◌∷◌, Some, None, Option}
 use Rattle.std.proofs.Common.{mod-lt, lit<}
 use Rattle.keys.specs.declared.listing.Listing.{Listing}
 use Rattle.keys.specs.declared.rows.ListingRow.{ListingRow}

@@ -1,5 +1,5 @@
 -- The text that answers an archive: a line for each entry, and then their count.
-use Rattle.std.specs.Prelude.{ℕ, suc, ◌+◌, ◌/◌, ◌%◌, cond, List, [], ◌∷◌, ◌++◌, length, None, codes, nat_lt}
+use Rattle.std.specs.Prelude.{ℕ, ◌+◌, ◌/◌, ◌%◌, cond, List, [], ◌∷◌, ◌++◌, length, None, codes, nat_lt}
 use Rattle.keys.specs.declared.rows.ListingRow.{ListingRow}
 use Rattle.keys.specs.Packing.{packed_listing}
 use Rattle.text.specs.Parts.{lines}

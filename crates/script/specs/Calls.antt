@@ -16,7 +16,7 @@ name_of kind.Abandon = codes "abandon"
 name_of kind.Choose = codes "choose"
 name_of kind.Copy = codes "copy"
 name_of kind.Settle = codes "settle"
-name_of kind.GiveUp = codes "give_up"
+name_of kind.GiveUp = codes "give-up"
 name_of kind.Sweep = codes "sweep"
 name_of kind.Collect = codes "collect"
 
@@ -32,7 +32,7 @@ kind_named name =
     (cond (same name (codes "choose")) (Some kind.Choose)
     (cond (same name (codes "copy")) (Some kind.Copy)
     (cond (same name (codes "settle")) (Some kind.Settle)
-    (cond (same name (codes "give_up")) (Some kind.GiveUp)
+    (cond (same name (codes "give-up")) (Some kind.GiveUp)
     (cond (same name (codes "sweep")) (Some kind.Sweep)
     (cond (same name (codes "collect")) (Some kind.Collect) None)))))))))))
 

@@ -1,3 +1,5 @@
+#![tactic(auto)]
+
 pub mod hand;
 pub mod kinds;
 pub mod reading;

@@ -88,7 +88,7 @@ call=sweep",
     )?;
     assert!(rt;
         example.as_slice()
-            == b"begin 0 plain|put 0 7 4500,2,17|commit 0|choose 7|copy|settle|sweep|"
+            == b"begin 0 plain|put 0 7 4500,2,17|commit 0|choose 7|copy|settle|sweep|".as_slice()
     );
     let others = reread(
         rt.alloc(),
@@ -100,7 +100,8 @@ call=give-up
 call=collect",
     )?;
     assert!(rt;
-        others.as_slice() == b"begin 63 checked|read 1 8|drop 2 9|abandon 3|give-up|collect|"
+        others.as_slice()
+            == b"begin 63 checked|read 1 8|drop 2 9|abandon 3|give-up|collect|".as_slice()
     );
     Ok(())
 }
@@ -116,13 +117,13 @@ call=commit s=00000000000000000000007
 call=commit s=
 call=commit s=-1",
     )?;
-    assert!(rt; sessions.as_slice() == b"commit 4294967295|-|commit 7|-|-|");
+    assert!(rt; sessions.as_slice() == b"commit 4294967295|-|commit 7|-|-|".as_slice());
     let keys = reread(
         rt.alloc(),
         b"call=choose k=18446744073709551615
 call=choose k=18446744073709551616",
     )?;
-    assert!(rt; keys.as_slice() == b"choose 18446744073709551615|-|");
+    assert!(rt; keys.as_slice() == b"choose 18446744073709551615|-|".as_slice());
     let rows = reread(
         rt.alloc(),
         b"call=put s=0 k=0 v=4294967295,65535,4294967295
@@ -132,7 +133,7 @@ call=put s=0 k=0 v=4294967295,65535,4294967296
 call=put s=0 k=0 v=1,2
 call=put s=0 k=0 v=1,2,3,4",
     )?;
-    assert!(rt; rows.as_slice() == b"put 0 0 4294967295,65535,4294967295|-|-|-|-|-|");
+    assert!(rt; rows.as_slice() == b"put 0 0 4294967295,65535,4294967295|-|-|-|-|-|".as_slice());
     Ok(())
 }
 
@@ -148,7 +149,7 @@ call=sweep\r
 call=sweep 
  call=sweep",
     )?;
-    assert!(rt; spaces.as_slice() == b"-|-|-|-|-|-|");
+    assert!(rt; spaces.as_slice() == b"-|-|-|-|-|-|".as_slice());
     let words = reread(
         rt.alloc(),
         b"CALL=sweep
@@ -169,7 +170,7 @@ call=
 call
 sweep",
     )?;
-    assert!(rt; words.as_slice() == b"-|-|-|-|-|-|-|-|-|-|-|-|-|-|-|-|-|");
+    assert!(rt; words.as_slice() == b"-|-|-|-|-|-|-|-|-|-|-|-|-|-|-|-|-|".as_slice());
     Ok(())
 }
 
@@ -187,18 +188,19 @@ fn replies(rt: HostRuntime) -> Result<(), Fail> {
         seller: 17,
         seats: 2,
     };
-    assert!(rt; written(rt.alloc(), Reply::BadLine)?.as_slice() == b"bad=line\n");
-    assert!(rt; written(rt.alloc(), Reply::BadMove)?.as_slice() == b"bad=move\n");
+    assert!(rt; written(rt.alloc(), Reply::BadLine)?.as_slice() == b"bad=line\n".as_slice());
+    assert!(rt; written(rt.alloc(), Reply::BadMove)?.as_slice() == b"bad=move\n".as_slice());
     assert!(rt;
-        written(rt.alloc(), Reply::Answered(Kind::Begin, Answer::Done))?.as_slice() == b"ok=begin\n"
+        written(rt.alloc(), Reply::Answered(Kind::Begin, Answer::Done))?.as_slice()
+            == b"ok=begin\n".as_slice()
     );
     assert!(rt;
         written(rt.alloc(), Reply::Answered(Kind::Commit, Answer::At(2)))?.as_slice()
-            == b"ok=commit at=2\n"
+            == b"ok=commit at=2\n".as_slice()
     );
     assert!(rt;
         written(rt.alloc(), Reply::Answered(Kind::Choose, Answer::Tag(1)))?.as_slice()
-            == b"ok=choose tag=1\n"
+            == b"ok=choose tag=1\n".as_slice()
     );
     assert!(rt;
         written(
@@ -206,19 +208,19 @@ fn replies(rt: HostRuntime) -> Result<(), Fail> {
             Reply::Answered(Kind::Read, Answer::Row(Some(row))),
         )?
         .as_slice()
-            == b"ok=read v=4500,2,17\n"
+            == b"ok=read v=4500,2,17\n".as_slice()
     );
     assert!(rt;
         written(rt.alloc(), Reply::Answered(Kind::Read, Answer::Row(None)))?.as_slice()
-            == b"ok=read v=none\n"
+            == b"ok=read v=none\n".as_slice()
     );
     assert!(rt;
         written(rt.alloc(), Reply::Answered(Kind::Drop, Answer::Was(false)))?.as_slice()
-            == b"ok=drop was=0\n"
+            == b"ok=drop was=0\n".as_slice()
     );
     assert!(rt;
         written(rt.alloc(), Reply::Answered(Kind::Drop, Answer::Was(true)))?.as_slice()
-            == b"ok=drop was=1\n"
+            == b"ok=drop was=1\n".as_slice()
     );
     Ok(())
 }
@@ -232,7 +234,7 @@ fn more_replies(rt: HostRuntime) -> Result<(), Fail> {
             Reply::Answered(Kind::Sweep, Answer::Swept(Swept::Gone)),
         )?
         .as_slice()
-            == b"ok=sweep did=gone\n"
+            == b"ok=sweep did=gone\n".as_slice()
     );
     assert!(rt;
         written(
@@ -240,7 +242,7 @@ fn more_replies(rt: HostRuntime) -> Result<(), Fail> {
             Reply::Answered(Kind::Sweep, Answer::Swept(Swept::Emptied)),
         )?
         .as_slice()
-            == b"ok=sweep did=emptied\n"
+            == b"ok=sweep did=emptied\n".as_slice()
     );
     assert!(rt;
         written(
@@ -248,11 +250,11 @@ fn more_replies(rt: HostRuntime) -> Result<(), Fail> {
             Reply::Answered(Kind::Sweep, Answer::Swept(Swept::NoneDue)),
         )?
         .as_slice()
-            == b"ok=sweep did=none\n"
+            == b"ok=sweep did=none\n".as_slice()
     );
     assert!(rt;
         written(rt.alloc(), Reply::Answered(Kind::GiveUp, Answer::Done))?.as_slice()
-            == b"ok=give-up\n"
+            == b"ok=give-up\n".as_slice()
     );
     assert!(rt;
         written(
@@ -260,7 +262,7 @@ fn more_replies(rt: HostRuntime) -> Result<(), Fail> {
             Reply::Answered(Kind::Commit, Answer::At(4294967295)),
         )?
         .as_slice()
-            == b"ok=commit at=4294967295\n"
+            == b"ok=commit at=4294967295\n".as_slice()
     );
     assert!(rt;
         written(
@@ -268,7 +270,7 @@ fn more_replies(rt: HostRuntime) -> Result<(), Fail> {
             Reply::Answered(Kind::Begin, Answer::Refused(Refusal::NoSession)),
         )?
         .as_slice()
-            == b"no=2\n"
+            == b"no=2\n".as_slice()
     );
     assert!(rt;
         written(
@@ -276,7 +278,7 @@ fn more_replies(rt: HostRuntime) -> Result<(), Fail> {
             Reply::Answered(Kind::Copy, Answer::Refused(full)),
         )?
         .as_slice()
-            == b"no=15\n"
+            == b"no=15\n".as_slice()
     );
     Ok(())
 }

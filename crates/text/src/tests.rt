@@ -28,15 +28,15 @@ fn limits(rt: HostRuntime) -> Result<(), Fail> {
         b"65535 65536 0 000000000000000000000007  +1 -1 1a",
         65535,
     )?;
-    assert!(rt; short.as_slice() == b"65535 - 0 7 - - - - ");
+    assert!(rt; short.as_slice() == b"65535 - 0 7 - - - - ".as_slice());
     let word = reread(rt.alloc(), b"4294967295 4294967296", 4294967295)?;
-    assert!(rt; word.as_slice() == b"4294967295 - ");
+    assert!(rt; word.as_slice() == b"4294967295 - ".as_slice());
     let long = reread(
         rt.alloc(),
         b"18446744073709551615 18446744073709551616",
         u64::MAX,
     )?;
-    assert!(rt; long.as_slice() == b"18446744073709551615 - ");
+    assert!(rt; long.as_slice() == b"18446744073709551615 - ".as_slice());
     Ok(())
 }
 
@@ -69,7 +69,7 @@ fn kinds(heap: Global, line: &[u8]) -> Result<Vec<u8>, AllocError> {
 #[test]
 fn spaces(rt: HostRuntime) -> Result<(), Fail> {
     let told = kinds(rt.alloc(), b"call=put  s=5 mode= k=1\tx v=\r =3 K=4 mod=a ")?;
-    assert!(rt; told.as_slice() == b"cput|o|s5|m|k1\tx|v\r|o=3|oK=4|omod=a|o|");
+    assert!(rt; told.as_slice() == b"cput|o|s5|m|k1\tx|v\r|o=3|oK=4|omod=a|o|".as_slice());
     Ok(())
 }
 
@@ -88,9 +88,9 @@ fn barred(heap: Global, input: &[u8]) -> Result<Vec<u8>, AllocError> {
 #[test]
 fn newlines(rt: HostRuntime) -> Result<(), Fail> {
     let ended = barred(rt.alloc(), b"\na\n\nb\n")?;
-    assert!(rt; ended.as_slice() == b"|a||b|");
+    assert!(rt; ended.as_slice() == b"|a||b|".as_slice());
     let open = barred(rt.alloc(), b"a\r\nb")?;
-    assert!(rt; open.as_slice() == b"a\r|b|");
+    assert!(rt; open.as_slice() == b"a\r|b|".as_slice());
     let none = barred(rt.alloc(), b"")?;
     assert!(rt; none.is_empty());
     Ok(())

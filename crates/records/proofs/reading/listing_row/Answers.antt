@@ -1,4 +1,4 @@
-use Rattle.std.proofs.Common.{◌≡◌, is_some, sym, ap, ◌∙◌}
+use Rattle.std.proofs.Common.{is_some, sym, ap, ◌∙◌}
 use Rattle.text.specs.Parts.{left}
 use Rattle.records.specs.Reading.{row_parts}
 use Rattle.records.proofs.Rows.{row_whole, mapped_some}

@@ -1,4 +1,4 @@
-use Rattle.std.proofs.Common.{◌≡◌, ◌+◌, ◌≤◌, ◌++◌, length, vec_items}
+use Rattle.std.proofs.Common.{◌≡◌, ◌+◌, ◌++◌, length, vec_items}
 use Rattle.records.specs.Entries.{entries_left}
 use Rattle.records.specs.Writing.{entries_text, count_good}
 use Rattle.records.proofs.report.report.Given as goal

@@ -7,7 +7,7 @@ pub returns-in_err-line : goal.returns-in_err-line
 returns-in_err-line c =
     let p = entries_none c.args.self.now.last (lines_left c.args.self.now.lines) _ c.in_err-line.ensures.value
     c.in_err-line.ensures.rest in
-    record { value = c.from-residual.ensures ∙ p.0; rest = p.1 }
+    record { value = c.from_residual.ensures ∙ p.0; rest = p.1 }
 
 pub returns : goal.returns
 returns c =
