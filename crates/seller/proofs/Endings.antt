@@ -1,7 +1,7 @@
 -- The ending that was decided, carried out, is what the rules say of the version that was seen.
 use Rattle.std.proofs.Common.{◌≡◌, ℕ, ◌≤◌, Bool, true, false, cond, not, ◌&&◌, List, [], ◌∷◌, ◌++◌, length, take, is_some, Some, None, Ok, Err, Option, Result, sym, refl, ap, ◌∙◌, inl, inr}
 use Rattle.std.proofs.lemmas.Bool.{cases_Bool, cond-true, cond-false, leb-false}
-use Rattle.slots.specs.Lists.{any, first, one, at_first, changed_at, appended, count_with}
+use Rattle.slots.specs.Lists.{any, first, one}
 use Rattle.slots.proofs.Slots.{appended_more, take_changed}
 use Rattle.rules.specs.declared.tables.HotRow.{HotRow}
 use Rattle.rules.specs.declared.tables.Notice.{Notice}
