@@ -2,10 +2,8 @@ ghost use Rattle.std.specs.Prelude.{◌≡◌, ℕ, ◌*◌, ◌/◌, true, ltb,
 ghost use Rattle.cold.specs.Cold.{found, in_order};
 ghost use Rattle.cold.specs.New.{refused_limit};
 ghost use Rattle.blocks.specs.Blocks.{seat_of, free_of, bytes_answer, put_bytes, removed_bytes};
-ghost use Rattle.blocks.specs.Cells.{entries_of, cells};
-ghost use Rattle.std.proofs.Common.{arith, rules};
-ghost use Rattle.blocks.specs.Gather.{gathered_few};
-ghost use Rattle.blocks.specs.Effects.{length_cells};
+ghost use Rattle.blocks.specs.Cells.{entries_of};
+ghost use Rattle.blocks.specs.Few.{few_cells};
 
 use crate::block::tag_of;
 use crate::store::BlockStore;
@@ -103,15 +101,9 @@ impl<K: Key, R: Packed> ColdStore<K, R> for BlockStore<K, R> {
 
     ghost limit = { λ s. s.limit };
 
-    ghost few = { λ s.
-        omega (
-          arith,
-          gathered_few (cells R.Packed.unpacked s.limit s.bytes.items),
-          length_cells R.Packed.unpacked
-              s.limit s.bytes.items,
-        ) };
+    ghost few = { λ s. few_cells R.Packed.unpacked s.limit s.bytes.items };
 
-    ghost small = { first_of (Prim.search rules, Prim.grind (arith, Self.row.coded.inj)) };
+    ghost small = { λ s. s.small };
 
     fn put(&mut self, key: K, tag: u32, row: R) -> Result<(), ColdRefusal> {
         self.put_entry(&key, tag, &row)

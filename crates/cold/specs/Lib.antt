@@ -1,4 +1,5 @@
 pub mod Cold
+pub mod Few
 pub mod Lists
 pub mod New
 pub mod Sorted

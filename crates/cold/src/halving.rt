@@ -3,8 +3,7 @@ ghost use Rattle.cold.specs.Lists.{nth};
 ghost use Rattle.cold.specs.Cold.{below_by, is_of, in_order};
 ghost use Rattle.cold.specs.New.{refused_limit};
 ghost use Rattle.cold.specs.Sorted.{meant, table, place, of_key};
-ghost use Rattle.std.proofs.Common.{arith, rules};
-ghost use Rattle.std.proofs.lemmas.List.{length-map};
+ghost use Rattle.cold.specs.Few.{few_meant};
 
 use crate::sorted::{Held, SortedStore};
 use crate::store::{ColdRefusal, ColdStore, Found, NewStoreError};
@@ -95,9 +94,9 @@ impl<K: OrderedKey, R: Copy> ColdStore<K, R> for SortedStore<K, R> {
 
     ghost limit = { λ s. s.limit };
 
-    ghost few = { λ s. omega (arith, length-map s.items.items (meant K.Key.number), s.items.ok.0, s.fits) };
+    ghost few = { λ s. few_meant K.Key.number s.items.items s.items.ok.0 s.fits };
 
-    ghost small = { first_of (Prim.search rules, Prim.grind (arith, Self.row.coded.inj)) };
+    ghost small = { λ s. s.small };
 
     fn put(&mut self, key: K, tag: u32, row: R) -> Result<(), ColdRefusal> {
         let at = self.place(&key, tag);

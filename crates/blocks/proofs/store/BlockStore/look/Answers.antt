@@ -1,7 +1,7 @@
 use Rattle.std.proofs.Common.{◌≡◌, ℕ, ◌-◌, true, map, Some, None, vec_items, Option, sym, ap, ◌∙◌, arith}
 use Rattle.cold.specs.Lists.{nth}
 use Rattle.cold.specs.declared.store.Found.{Found}
-use Rattle.blocks.specs.Blocks.{cut, part, tag_of, is_used}
+use Rattle.blocks.specs.Blocks.{cut, part, is_used}
 use Rattle.blocks.specs.Cells.{cell, entries_of}
 use Rattle.blocks.specs.Gather.{told_cell}
 use Rattle.cold.proofs.Places.{found_at}

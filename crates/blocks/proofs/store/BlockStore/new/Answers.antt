@@ -10,14 +10,18 @@ pub invariant_of-result : goal.invariant_of-result
 invariant_of-result g c =
     let k = c.in-Ok.ensures in
     let m : c.args.limit * 32 ≡ 32 * c.args.limit = omega arith in
-    let z = k.exact (λ y e. e) ∙ ap (λ n. replicate n 0) m in
-    (search rules, (search rules, (ap (λ xs. all is_tidy (cut 32 c.args.limit xs)) z ∙ new_tidy c.args.limit, tt)))
+    let z = k.items_if_clones_equal (λ y e. e) ∙ ap (λ n. replicate n 0) m in
+    record {
+      long = search rules;
+      small = search rules;
+      tidy = ap (λ xs. all is_tidy (cut 32 c.args.limit xs)) z ∙ new_tidy c.args.limit;
+    }
 
 pub returns-in-Ok : goal.returns-in-Ok
 returns-in-Ok g c =
     let k = c.in-Ok.ensures in
     let m : c.args.limit * 32 ≡ 32 * c.args.limit = omega arith in
-    let z = k.exact (λ y e. e) ∙ ap (λ n. replicate n 0) m in
+    let z = k.items_if_clones_equal (λ y e. e) ∙ ap (λ n. replicate n 0) m in
     record {
       refused = search rules;
       made = (

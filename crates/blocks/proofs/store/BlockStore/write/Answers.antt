@@ -11,9 +11,9 @@ returns g c =
     let l : length c.fill.new.block ≡ c.args.place * 32 + 32 - c.args.place * 32 = search rules in
     record {
       bytes =
-          given_back (vec_items c.args.self.now.bytes) c.deref-mut.result.now c.fill.new.block
+          given_back (vec_items c.args.self.now.bytes) c.deref_mut.result.now c.fill.new.block
           (vec_len c.args.self.now.bytes) (c.args.place * 32) (c.args.place * 32 + 32 - c.args.place * 32) (32 * c.args.place)
-          c.deref-mut.ensures.value (omega arith) (omega (arith, c.args.self.now.long, c.requires)) l (omega arith)
+          c.deref_mut.ensures.value (omega arith) (omega (arith, c.args.self.now.long, c.requires)) l (omega arith)
           ∙ ap (written (vec_items c.args.self.now.bytes) (32 * c.args.place)) c.fill.ensures;
       limit = refl;
     }
@@ -24,19 +24,16 @@ invariant_of-self g c =
     let lg = c.args.self.now.long in
     let l : length c.fill.new.block ≡ c.args.place * 32 + 32 - c.args.place * 32 = search rules in
     let e =
-    given_back (vec_items c.args.self.now.bytes) c.deref-mut.result.now c.fill.new.block (vec_len c.args.self.now.bytes)
+    given_back (vec_items c.args.self.now.bytes) c.deref_mut.result.now c.fill.new.block (vec_len c.args.self.now.bytes)
     (c.args.place * 32) (c.args.place * 32 + 32 - c.args.place * 32) (32 * c.args.place)
-    c.deref-mut.ensures.value (omega arith) (omega (arith, c.args.self.now.long, c.requires)) l (omega arith)
-    ∙ ap (written (vec_items c.args.self.now.bytes) (32 * c.args.place)) c.fill.ensures in (
-      c.args.self.now.long,
-      (
-        c.args.self.now.small,
-        (
+    c.deref_mut.ensures.value (omega arith) (omega (arith, c.args.self.now.long, c.requires)) l (omega arith)
+    ∙ ap (written (vec_items c.args.self.now.bytes) (32 * c.args.place)) c.fill.ensures in
+    record {
+      long = c.args.self.now.long;
+      small = c.args.self.now.small;
+      tidy =
           ap (λ xs. all is_tidy (cut 32 c.args.self.now.limit xs)) e
-              ∙ filled_kept c.args.self.now.limit c.args.place c.args.number c.args.tag (vec_items c.args.self.now.bytes)
-              (g.R.Packed.packed c.args.row.now) c.requires (omega arith) (g.met.R.Packed.long c.args.row.now)
-              c.args.self.now.tidy,
-          tt,
-        ),
-      ),
-    )
+          ∙ filled_kept c.args.self.now.limit c.args.place c.args.number c.args.tag (vec_items c.args.self.now.bytes)
+          (g.R.Packed.packed c.args.row.now) c.requires (omega arith) (g.met.R.Packed.long c.args.row.now)
+          c.args.self.now.tidy;
+    }
