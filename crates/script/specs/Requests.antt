@@ -2,7 +2,6 @@
 use Rattle.std.specs.Prelude.{ℕ, cond, List, [], ◌∷◌, Some, None, codes, Option}
 use Rattle.std.specs.Option.{option_map}
 use Rattle.keys.specs.declared.listing.Listing.{Listing}
-use Rattle.keys.specs.declared.rows.ListingRow.{ListingRow}
 use Rattle.rules.specs.declared.sheet.Mode.{Mode}
 use Rattle.rules.specs.declared.sheet.Mode.TheVariants.{Plain, Checked}
 use Rattle.text.specs.Numbers.{decimal_of}

@@ -1,4 +1,4 @@
-use Rattle.std.proofs.Common.{sym, ap, ◌∙◌, arith}
+use Rattle.std.proofs.Common.{sym, ap, ◌∙◌}
 use Rattle.loading.proofs.Loops.{front_none, front_more, front_all}
 use Rattle.loading.proofs.every.add_all.Goals as goal
 

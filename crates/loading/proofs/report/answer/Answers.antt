@@ -1,4 +1,4 @@
-use Rattle.std.proofs.Common.{ℕ, Bool, false, cond, ltb, length, sym, ◌∙◌, lt-ltb}
+use Rattle.std.proofs.Common.{ℕ, Bool, false, ltb, length, sym, ◌∙◌, lt-ltb}
 use Rattle.std.proofs.lemmas.Result.{IfOk-weaker}
 use Rattle.std.proofs.lemmas.Bool.{cond-true}
 use Rattle.loading.proofs.report.answer.Goals as goal
@@ -12,7 +12,7 @@ returns-then-input-gt-LIMIT c =
       none,
       (
         none,
-        h.0 ∙ sym (cond-true (ltb 65536 (length c.args.input.now)) _ _
+        h ∙ sym (cond-true (ltb 65536 (length c.args.input.now)) _ _
             (lt-ltb 65536 (length c.args.input.now) c.if-input-gt-LIMIT.true)),
       ),
-    )) c.from_slice.ensures.made
+    )) c.from_slice.ensures.items

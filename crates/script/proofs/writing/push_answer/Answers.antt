@@ -3,33 +3,33 @@ use Rattle.text.specs.Numbers.{decimal_text}
 use Rattle.script.proofs.Texts.{ok_answered, refused_answered}
 use Rattle.script.proofs.writing.push_answer.Goals as goal
 
-pub returns-in_ok-push_found : goal.returns-in_ok-push_found
-returns-in_ok-push_found c =
+pub returns-in_ok-push_found-in-Row : goal.returns-in_ok-push_found-in-Row
+returns-in_ok-push_found-in-Row c =
     ok_answered c.args.kind c.args.answer _ _ _ _ (codes " v=") _ _ c.in-Row.is refl refl
-    c.in_ok-push_ok.ensures c.in_ok-push_found.ensures
+    c.in_ok-push_ok-in-Row.ensures c.in_ok-push_found-in-Row.ensures
 
-pub returns-in_ok-extend_from_slice : goal.returns-in_ok-extend_from_slice
-returns-in_ok-extend_from_slice c =
+pub returns-in_ok-extend_from_slice-in-Was : goal.returns-in_ok-extend_from_slice-in-Was
+returns-in_ok-extend_from_slice-in-Was c =
     ok_answered c.args.kind c.args.answer _ _ _ _ (codes " was=") _ _ c.in-Was.is refl c.was.ensures
-    c.in_ok-push_ok-2.ensures c.in_ok-extend_from_slice.ensures.items
+    c.in_ok-push_ok-in-Was.ensures c.in_ok-extend_from_slice-in-Was.ensures.items
 
-pub returns-in_ok-push_decimal : goal.returns-in_ok-push_decimal
-returns-in_ok-push_decimal c =
+pub returns-in_ok-push_decimal-in-At : goal.returns-in_ok-push_decimal-in-At
+returns-in_ok-push_decimal-in-At c =
     ok_answered c.args.kind c.args.answer _ _ _ _ (codes " at=") _ _ c.in-At.is refl (ap decimal_text c.from.ensures)
-    c.in_ok-push_ok-3.ensures c.in_ok-push_decimal.ensures.appended
+    c.in_ok-push_ok-in-At.ensures c.in_ok-push_decimal-in-At.ensures.appended
 
-pub returns-in_ok-push_decimal-2 : goal.returns-in_ok-push_decimal-2
-returns-in_ok-push_decimal-2 c =
+pub returns-in_ok-push_decimal-in-Tag : goal.returns-in_ok-push_decimal-in-Tag
+returns-in_ok-push_decimal-in-Tag c =
     ok_answered c.args.kind c.args.answer _ _ _ _ (codes " tag=") _ _ c.in-Tag.is refl (ap decimal_text c.from-in-Tag.ensures)
-    c.in_ok-push_ok-4.ensures c.in_ok-push_decimal-2.ensures.appended
+    c.in_ok-push_ok-in-Tag.ensures c.in_ok-push_decimal-in-Tag.ensures.appended
 
-pub returns-in_ok-extend_from_slice-2 : goal.returns-in_ok-extend_from_slice-2
-returns-in_ok-extend_from_slice-2 c =
+pub returns-in_ok-extend_from_slice-in-Swept : goal.returns-in_ok-extend_from_slice-in-Swept
+returns-in_ok-extend_from_slice-in-Swept c =
     ok_answered c.args.kind c.args.answer _ _ _ _ (codes " did=") _ _ c.in-Swept.is refl c.did.ensures
-    c.in_ok-push_ok-5.ensures c.in_ok-extend_from_slice-2.ensures.items
+    c.in_ok-push_ok-in-Swept.ensures c.in_ok-extend_from_slice-in-Swept.ensures.items
 
-pub returns-in_ok-push_decimal-3 : goal.returns-in_ok-push_decimal-3
-returns-in_ok-push_decimal-3 c =
+pub returns-in_ok-push_decimal-in-Refused : goal.returns-in_ok-push_decimal-in-Refused
+returns-in_ok-push_decimal-in-Refused c =
     refused_answered c.args.kind c.args.answer _ _ _ _ _ _ c.in-Refused.is refl
     (ap decimal_text (c.from-in-Refused.ensures ∙ c.number.ensures))
-    c.in_ok-extend_from_slice-3.ensures.items c.in_ok-push_decimal-3.ensures.appended
+    c.in_ok-extend_from_slice-in-Refused.ensures.items c.in_ok-push_decimal-in-Refused.ensures.appended
