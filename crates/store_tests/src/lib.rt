@@ -1,3 +1,5 @@
+#![tactic(auto)]
+
 // Tests of the stores and the filters.
 #[cfg(test)]
 mod filters;
