@@ -42,7 +42,6 @@ impl<K: OrderedKey, R: Copy> SortedStore<K, R> {
 
     // How many entries come before a key and tag, by halving.
     fn place(&self, key: &K, tag: u32) -> usize
-        requires { in_order (table K.Key.number self.now.items.items) ≡ true }
         ensures bound { result ≤ vec_len self.now.items }
         ensures value { result ≡ place (K.Key.number key.now) tag (table K.Key.number self.now.items.items) }
     {
@@ -97,6 +96,8 @@ impl<K: OrderedKey, R: Copy> ColdStore<K, R> for SortedStore<K, R> {
     ghost few = { λ s. few_meant K.Key.number s.items.items s.items.ok.0 s.fits };
 
     ghost small = { λ s. s.small };
+
+    ghost ordered = { λ s. s.ordered };
 
     fn put(&mut self, key: K, tag: u32, row: R) -> Result<(), ColdRefusal> {
         let at = self.place(&key, tag);

@@ -34,7 +34,6 @@ pub trait ColdStore<K: Key, R: Copy> {
 
     // Puts an entry in. Refused where its key and tag are there, else where the count is the limit; a refusal changes nothing.
     fn put(&mut self, key: K, tag: u32, row: R) -> Result<(), ColdRefusal>
-        requires { in_order (entries self.old) ≡ true }
         ensures answer { result ≡ put_answer (limit self.old) (entries self.old) (K.Key.number key) tag }
         ensures after { entries self.new
             ≡ put_after (limit self.old) (entries self.old) (K.Key.number key) tag row }
@@ -42,12 +41,10 @@ pub trait ColdStore<K: Key, R: Copy> {
 
     // The entry of the key with the smallest tag not below `tag`.
     fn find(&self, key: &K, tag: u32) -> Option<Found<R>>
-        requires { in_order (entries self.now) ≡ true }
         ensures { result ≡ found (entries self.now) (K.Key.number key.now) tag };
 
     // Takes the entry of a key and tag out, and tells whether it was there.
     fn remove(&mut self, key: &K, tag: u32) -> bool
-        requires { in_order (entries self.old) ≡ true }
         ensures answer { result ≡ is_there (K.Key.number key.now) tag (entries self.old) }
         ensures after { entries self.new ≡ removed_after (entries self.old) (K.Key.number key.now) tag }
         ensures limit { limit self.new ≡ limit self.old };
@@ -55,4 +52,6 @@ pub trait ColdStore<K: Key, R: Copy> {
     ghost few: { (s : Self) → length (entries s) ≤ limit s };
 
     ghost small: { (s : Self) → limit s ≤ 1048576 };
+
+    ghost ordered: { (s : Self) → in_order (entries s) ≡ true };
 }

@@ -9,7 +9,7 @@ use Rattle.cold.proofs.sorted.SortedStore.place.Goals as goal
 pub loop-low-preserved-then-comes_before : goal.loop-low-preserved-then-comes_before
 loop-low-preserved-then-comes_before g c =
     let n = c.args.self.now.items.ok.0 in
-    let o = ordered g.K.Key.number (vec_items c.args.self.now.items) c.requires in
+    let o = ordered g.K.Key.number (vec_items c.args.self.now.items) c.args.self.now.ordered in
     let h : c.loop-low.low + (c.loop-low.high - c.loop-low.low) / 2 < length (vec_items c.args.self.now.items) = omega arith in (
       omega arith,
       c.loop-low.invariant.1,
@@ -22,7 +22,7 @@ loop-low-preserved-then-comes_before g c =
 pub loop-low-preserved : goal.loop-low-preserved
 loop-low-preserved g c =
     let n = c.args.self.now.items.ok.0 in
-    let o = ordered g.K.Key.number (vec_items c.args.self.now.items) c.requires in
+    let o = ordered g.K.Key.number (vec_items c.args.self.now.items) c.args.self.now.ordered in
     let h : c.loop-low.low + (c.loop-low.high - c.loop-low.low) / 2 < length (vec_items c.args.self.now.items) = omega arith in (
       omega arith,
       omega arith,
