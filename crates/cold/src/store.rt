@@ -1,27 +1,37 @@
 ghost use Rattle.std.specs.Prelude.{◌≡◌, ℕ, ◌≤◌, true, List, length};
 ghost use Rattle.cold.specs.Cold.{Entry, put_answer, put_after, found, is_there, removed_after, in_order};
+ghost use Rattle.cold.specs.declared.store.NewStoreError.TheVariants.{Memory};
 
 use keys::key::Key;
+use std::alloc::AllocError;
 
 // What a find answers.
-#[derive(Clone, Copy)]
+#[derive(Clone, Copy, Debug, PartialEq, Eq)]
 pub struct Found<R> {
     pub tag: u32,
     pub row: R,
 }
 
 // Why a put is refused: the key and tag are there already, or the store is full, with its count.
-#[derive(Clone, Copy)]
+#[derive(Clone, Copy, Debug, PartialEq, Eq)]
 pub enum ColdRefusal {
     There,
     Full(usize),
 }
 
 // Why a new store is refused: its limit is above 1,048,576, or there is no memory.
-#[derive(Clone, Copy)]
+#[derive(Clone, Copy, Debug, PartialEq, Eq)]
 pub enum NewStoreError {
     Limit,
     Memory,
+}
+
+impl From<AllocError> for NewStoreError {
+    ghost from_gives = { λ _ e. e ≡ Memory };
+
+    fn from(_: AllocError) -> NewStoreError {
+        NewStoreError::Memory
+    }
 }
 
 // A set of entries, each a key, a tag and a row, with no key and tag twice.

@@ -5,4 +5,4 @@ use Rattle.cold.proofs.sorted.SortedStore.new.Goals as goal
 
 -- an empty table is in order
 pub invariant_of-result-clause-ordered : goal.invariant_of-result-clause-ordered
-invariant_of-result-clause-ordered g c = order_none _ (ap (table g.K.Key.number) c.in-Ok.ensures.items)
+invariant_of-result-clause-ordered g c = order_none _ (ap (table g.K.Key.number) c.in_ok-items.ensures.items)
