@@ -17,7 +17,7 @@ pub enum Layer {
 }
 
 // Why a call is refused.
-#[derive(Clone, Copy)]
+#[derive(Clone, Copy, Debug, PartialEq, Eq)]
 pub enum Refusal {
     // a length or a number of the opening is out of range, or the lent lengths are not the opening's
     OutOfRange(Side),
@@ -60,7 +60,7 @@ pub enum Swept {
 }
 
 // What a call answers.
-#[derive(Clone, Copy)]
+#[derive(Clone, Copy, Debug, PartialEq, Eq)]
 pub enum Answer<R> {
     // begin, put, abandon, copy, settle, give-up, collect
     Done,
@@ -78,7 +78,7 @@ pub enum Answer<R> {
 }
 
 // The twelve calls on an open store. A session is named by its number, a move by its tag.
-#[derive(Clone, Copy)]
+#[derive(Clone, Copy, Debug, PartialEq, Eq)]
 pub enum Call<K, R> {
     Begin(u32, Mode),
     Read(u32, K),
