@@ -59,7 +59,7 @@ pub enum Swept {
     NoneDue,
 }
 
-// What a call answers.
+// What a call answers that is not refused: a call tells a Result<Answer<R>, Refusal>.
 #[derive(Clone, Copy, Debug, PartialEq, Eq)]
 pub enum Answer<R> {
     // begin, put, abandon, copy, settle, give-up, collect
@@ -74,7 +74,6 @@ pub enum Answer<R> {
     Tag(u32),
     // sweep
     Swept(Swept),
-    Refused(Refusal),
 }
 
 // The twelve calls on an open store. A session is named by its number, a move by its tag.
