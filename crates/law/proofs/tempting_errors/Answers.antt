@@ -30,11 +30,11 @@ entered_reads = (_, (_, refl, (_, refl, (_, refl, (_, refl, (_, refl, (_, refl, 
 
 early_sweep : WithStep dropped_below swept_early (read_then (Some 50))
 unfolding Runs any first at_first kept each put_in least_time walk
-early_sweep = (_, _, (_, refl, (_, refl, (_, refl, (_, refl, (_, (λ k. true, λ h e. (λ n a. refl, refl), refl), (_, refl, (_, refl, (_, refl, (_, refl, (_, refl, refl)))))))))), (_, refl, (_, refl, refl)))
+early_sweep = (_, _, (_, refl, (_, refl, (_, refl, (_, refl, (_, (λ k. true, λ h e. (refl, λ n a. refl), refl), (_, refl, (_, refl, (_, refl, (_, refl, (_, refl, refl)))))))))), (_, refl, (_, refl, refl)))
 
 sweep_by_rules : ByRules (dropped_below ++ (gets call.Sweep (Ok (answer.Swept Emptied)) ∷ read_then None))
 unfolding Runs any first at_first kept each put_in least_time walk
-sweep_by_rules = (_, (_, refl, (_, refl, (_, refl, (_, refl, (_, (λ k. true, λ h e. (λ n a. refl, refl), refl), (_, refl, (_, refl, (_, refl, (_, refl, (_, refl, (_, refl, (_, refl, (_, refl, refl))))))))))))))
+sweep_by_rules = (_, (_, refl, (_, refl, (_, refl, (_, refl, (_, (λ k. true, λ h e. (refl, λ n a. refl), refl), (_, refl, (_, refl, (_, refl, (_, refl, (_, refl, (_, refl, (_, refl, (_, refl, refl))))))))))))))
 
 pub returns : goal.returns
 returns c = record {
