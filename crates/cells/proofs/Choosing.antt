@@ -23,8 +23,7 @@ use Rattle.cells.proofs.Splitting.{Elsewhere, cold_calm}
 
 movable_is : (x : Moment) (y : Option Moment) → (stamped_begin x && open_end y) ≡ true → (i : ℕ) × (x ≡ moment.Stamp i) × (y ≡ None)
 movable_is (moment.Stamp i) None h = (i, refl, refl)
-movable_is (moment.Stamp i) (Some (moment.Stamp n)) h = absurd (let z : ◌≡◌ {A = ℕ} 0 1 = cc in omega arith)
-movable_is (moment.Stamp i) (Some (moment.Mark n)) h = absurd (let z : ◌≡◌ {A = ℕ} 0 1 = cc in omega arith)
+movable_is (moment.Stamp i) (Some x) h = absurd (let z : ◌≡◌ {A = ℕ} 0 1 = cc in omega arith)
 movable_is (moment.Mark m) y h = absurd (let z : ◌≡◌ {A = ℕ} 0 1 = cc in omega arith)
 
 unmoved_is : (m : MoveMark) → unmoved m ≡ true → m ≡ Unmoved

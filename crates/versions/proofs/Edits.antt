@@ -56,8 +56,7 @@ seen_is s t (moment.Mark n) y calm other seen = absurd (let z : ◌≡◌ {A = �
 own_is : (s : ℕ) (x : Moment) (y : Option Moment) → Shaped x y → begin_marked x s ≡ true → (x ≡ moment.Mark s) × (y ≡ None)
 own_is s (moment.Stamp n) y shaped own = absurd (let z : ◌≡◌ {A = ℕ} 0 1 = cc in omega arith)
 own_is s (moment.Mark n) None shaped own = (ap moment.Mark (eqb-true n s own), refl)
-own_is s (moment.Mark n) (Some (moment.Stamp m)) shaped own = elim shaped [ ]
-own_is s (moment.Mark n) (Some (moment.Mark m)) shaped own = elim shaped [ ]
+own_is s (moment.Mark n) (Some x) shaped own = elim shaped [ ]
 
 -- a key of which the session sees nothing
 module _ {R : Type 0} {h c : ℕ} {cs : List (Commit R)} {turn : ℕ → Option (Turn R)} {k s : ℕ} {V : List (Version R)}
