@@ -1,6 +1,7 @@
 -- The four ways in which a session's write changes the versions of a key: a new version, another row in its own version,
 -- its own version taken out, and its mark as the end of a version that it sees.
 use Rattle.std.proofs.Common.{◌≡◌, ℕ, ◌≤◌, Bool, true, false, cond, ◌&&◌, ◌||◌, List, [], ◌∷◌, ◌++◌, is_some, Some, None, Option, sym, refl, ap, ◌∙◌, append-nil, arith}
+use Rattle.std.proofs.lemmas.Option.{none-some}
 use Rattle.std.proofs.lemmas.Bool.{eqb-true, eq-eqb, ne_eqb}
 use Rattle.std.proofs.lemmas.Bool.Decides.{nat_tests}
 use Rattle.rules.specs.declared.times.Moment.{Moment}
@@ -11,7 +12,7 @@ use Rattle.slots.proofs.Folds.{any_append, all_join}
 use Rattle.versions.specs.History.{Commit, Turn, shown}
 use Rattle.versions.proofs.Versions.{Version, Shaped, v_plain, v_sees, v_begun, v_ended, v_above}
 use Rattle.versions.proofs.Versions.{VShaped, rows, put_of, read_of, writes_of, had_at, Rel}
-use Rattle.versions.proofs.Rows.{never_both, rows_append}
+use Rattle.versions.proofs.Rows.{rows_append}
 use Rattle.versions.proofs.Marks.{NoMark, no_mark}
 use Rattle.versions.proofs.Seeing.{CalmFor, sees_plain, plain_reader, sees_later}
 use Rattle.versions.proofs.OneVersion.{any_at, all_at, rows_some, rows_without, rows_without_one, any_without}
@@ -38,7 +39,7 @@ module _ (R : Type 0) where
 
   dropping_is : (had : Bool) (x : Option R) → dropping had ≡ Some x → x ≡ None
   dropping_is true x p = cc
-  dropping_is false x p = absurd (never_both refl p)
+  dropping_is false x p = absurd (none-some _ p)
 
   dropping_puts_none : (had : Bool) → list_of (put_of (dropping had)) ≡ []
   dropping_puts_none true = refl

@@ -6,10 +6,6 @@ use Rattle.slots.specs.Lists.{any, each, one_if}
 use Rattle.slots.proofs.Folds.{all_then, each_append, each_same}
 use Rattle.versions.proofs.Versions.{Version, rows}
 
--- no option is None and has a value
-pub never_both : {X : Type 0} {o : Option X} {x : X} → o ≡ None → o ≡ Some x → ⊥
-never_both p q = let z : ◌≡◌ {A = ℕ} 0 1 = cc in omega arith
-
 -- an option that has no value is None
 pub none_unless : {X : Type 0} (o : Option X) → ((x : X) → o ≡ Some x → ⊥) → o ≡ None
 none_unless None f = refl
