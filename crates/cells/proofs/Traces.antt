@@ -80,7 +80,7 @@ module _ {K R : Type 0} (number : K → ℕ) (σ : Store K R) (T : History R) (w
       let memo = all_none _ σ.memo (all_then _ _ σ.memo (none_all _ σ.memo parts.1) (λ x free. and_right _ _ free)) in
       let free = all_none (v_marked s) _ (tells_versions number σ k (mark_of s) (mark_parts s) memo hot) in
       let marked = has_mark (w.rel k) (w.tidy k) s v wrote in
-      absurd (let z : ◌≡◌ {A = ℕ} 0 1 = cc in omega arith)
+      absurd cc
 
   -- and a session without writes has no marks
   pub none_marked : (s : ℕ) → ((k : ℕ) → writes_of T.turn s k ≡ None) → has_marks σ s ≡ false

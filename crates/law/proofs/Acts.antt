@@ -26,7 +26,7 @@ module _ {R : Type 0} where
     pub seen : shown T.commits r k ≡ v
 
   none_some : (y : Turn R) {A : Type 0} {o : Option (Turn R)} → o ≡ None → o ≡ Some y → A
-  none_some y e f = absurd (let z : ◌≡◌ {A = ℕ} 0 1 = cc in omega arith)
+  none_some y e f = absurd cc
 
   module _ (T : History R) (s : ℕ) (m : Mode) (k r : ℕ) (v : Option R) (w : Working T s m k r v) where
     -- another session's turn changes

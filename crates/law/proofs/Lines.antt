@@ -1,5 +1,5 @@
 -- A session's ledger lines stay until the session is closed.
-use Rattle.std.proofs.Common.{◌≡◌, ℕ, Bool, true, false, cond, not, ◌&&◌, eqb, ltb, leb, List, [], ◌∷◌, ◌++◌, Some, None, Option, sym, refl, ap, ◌∙◌, subst, inl, inr, arith}
+use Rattle.std.proofs.Common.{◌≡◌, ℕ, Bool, true, false, cond, not, ◌&&◌, eqb, ltb, leb, List, [], ◌∷◌, ◌++◌, Some, None, Option, sym, refl, ap, ◌∙◌, subst, inl, inr}
 use Rattle.std.proofs.lemmas.Bool.{cases_Bool, cond_both, eqb-true, eq-eqb, ne_eqb, and_parts, or_parts, or_left}
 use Rattle.slots.specs.Lists.{any, kept, one}
 use Rattle.slots.proofs.Folds.{any_append}
@@ -56,7 +56,7 @@ module _ {K R : Type 0} (number : K → ℕ) where
         rw (e, ne_eqb s u (λ z. ne (sym z))) refl) h
 
     not_closed : (u : ℕ) → (eqb u s && true) ≡ false → u ≡ s → ⊥
-    not_closed u e q = let f = eq-eqb u s q in let z : ◌≡◌ {A = ℕ} 0 1 = cc (rw f at e) in omega arith
+    not_closed u e q = let f = eq-eqb u s q in cc (rw f at e)
 
     begin_line : (u : ℕ) (m : Mode) → Stays (call.Begin u m) (begin_rule σ.lengths σ u m)
     begin_line u m = lent_own (Stays (call.Begin u m)) _ σ σ _

@@ -29,7 +29,7 @@ use Rattle.law.proofs.Steps.{lent_own, session_ok}
 use Rattle.law.proofs.Lines.{end_ledger}
 
 no_answer : {R A : Type 0} (e : Refusal) (v : Answer R) → ◌≡◌ {A = Told R} (Err e) (Ok v) → A
-no_answer e v p = absurd (let z : ◌≡◌ {A = ℕ} 0 1 = cc in omega arith)
+no_answer e v p = absurd cc
 
 same_row : {R : Type 0} (a c : Option R) → ◌≡◌ {A = Told R} (Ok (answer.Row a)) (Ok (answer.Row c)) → c ≡ a
 same_row a c p = let q : a ≡ c = cc in sym q

@@ -49,13 +49,13 @@ module _ (R : Type 0) where
 seen_is : (s t : ℕ) (x : Moment) (y : Option Moment) → (foreign_begin x s t || foreign_end y s t) ≡ false → begin_marked x s ≡ false
     → sees x y s t ≡ true → (n : ℕ) × (x ≡ moment.Stamp n) × (y ≡ None)
 seen_is s t (moment.Stamp n) None calm other seen = (n, refl, refl)
-seen_is s t (moment.Stamp n) (Some (moment.Stamp m)) calm other seen = absurd (let z : ◌≡◌ {A = ℕ} 0 1 = grind (arith, nat_tests) in omega arith)
-seen_is s t (moment.Stamp n) (Some (moment.Mark m)) calm other seen = absurd (let z : ◌≡◌ {A = ℕ} 0 1 = grind (arith, nat_tests) in omega arith)
-seen_is s t (moment.Mark n) y calm other seen = absurd (let z : ◌≡◌ {A = ℕ} 0 1 = grind (arith, nat_tests) in omega arith)
+seen_is s t (moment.Stamp n) (Some (moment.Stamp m)) calm other seen = absurd (grind (arith, nat_tests))
+seen_is s t (moment.Stamp n) (Some (moment.Mark m)) calm other seen = absurd (grind (arith, nat_tests))
+seen_is s t (moment.Mark n) y calm other seen = absurd (grind (arith, nat_tests))
 
 -- a version that s began has its mark and is open
 own_is : (s : ℕ) (x : Moment) (y : Option Moment) → Shaped x y → begin_marked x s ≡ true → (x ≡ moment.Mark s) × (y ≡ None)
-own_is s (moment.Stamp n) y shaped own = absurd (let z : ◌≡◌ {A = ℕ} 0 1 = cc in omega arith)
+own_is s (moment.Stamp n) y shaped own = absurd cc
 own_is s (moment.Mark n) None shaped own = (ap moment.Mark (eqb-true n s own), refl)
 own_is s (moment.Mark n) (Some x) shaped own = elim shaped [ ]
 
@@ -67,8 +67,7 @@ module _ {R : Type 0} {h c : ℕ} {cs : List (Commit R)} {turn : ℕ → Option 
   unshown None p none = refl
   unshown (Some q) p none = absurd (
       let shows = ready.rel.plain (read_of turn s) ready.from in
-      let z : ◌≡◌ {A = ℕ} 0 1 = cc in
-      omega arith)
+      cc)
 
   -- if it was there the session ended it
   ended_had : any (v_ended s) V ≡ had_at cs turn s k

@@ -1,6 +1,6 @@
 -- A session writes a key: the frame that a put and a drop have in common. What is to be shown is how the versions change
 -- for the session itself; the rest follows, since nothing foreign stands on the key.
-use Rattle.std.proofs.Common.{◌≡◌, ℕ, ◌≤◌, true, false, ◌&&◌, List, is_some, Some, None, Option, sym, ap, ◌∙◌, subst, inl, inr, arith}
+use Rattle.std.proofs.Common.{◌≡◌, ℕ, ◌≤◌, true, false, ◌&&◌, List, is_some, Some, None, Option, sym, ap, ◌∙◌, subst, inl, inr}
 use Rattle.std.proofs.lemmas.Option.{none-some}
 use Rattle.std.specs.List.{AllByRecursion as All}
 use Rattle.std.proofs.lemmas.Bool.{cases_eq}
@@ -51,8 +51,7 @@ module _ {R : Type 0} {h c : ℕ} {cs : List (Commit R)} {turn : ℕ → Option 
       let marked = has_mark ready.rel ready.tidy m w wrote in
       let unmarked : any (v_marked m) V ≡ false =
       all_none _ V (all_then _ _ V ready.calm (λ v calm. let none = calm_only s time v calm m ne in rw (none.0, none.1))) in
-      let z : ◌≡◌ {A = ℕ} 0 1 = cc in
-      omega arith)
+      cc)
 
   pub none_since : wrote_above cs time k ≡ false
   none_since = sym (ready.rel.stamps time ready.from) ∙ all_none _ V (all_then _ _ V ready.calm (calm_low s time))
