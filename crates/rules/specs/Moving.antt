@@ -3,7 +3,6 @@ use Rattle.std.specs.Prelude.{ℕ, ◌+◌, Bool, true, false, cond, not, ◌&&�
 use Rattle.slots.specs.Lists.{any, first, at_first, kept, one}
 use Rattle.cold.specs.Cold.{put_answer, put_after, removed_after}
 use Rattle.cold.specs.declared.store.ColdRefusal.{ColdRefusal}
-use Rattle.rules.specs.declared.tables.End.TheVariants as e
 use Rattle.rules.specs.declared.tables.MoveMark.{MoveMark}
 use Rattle.rules.specs.declared.tables.MoveMark.TheVariants.{Unmoved, Chosen, Copied}
 use Rattle.rules.specs.declared.tables.HotRow.{HotRow}
@@ -59,7 +58,7 @@ module _ {K R : Type 0} where
 -- Choose.
 
 abbrev pub new_pending : {K : Type 0} → K → ℕ → Notice K
-new_pending key tag = record { key = key; tag = tag; kind = N; begin = 1; end = e.Open }
+new_pending key tag = record { key = key; tag = tag; kind = N; begin = 1; end = None }
 
 module _ {K R : Type 0} (number : K → ℕ) where
   -- a row that may move: a stamp as begin, and an open end

@@ -2,14 +2,14 @@ use crate::sheet::Mode;
 use cold::store::ColdRefusal;
 
 // Who calls: a seller (the opening too), or a mover, who also sweeps and collects.
-#[derive(Clone, Copy)]
+#[derive(Clone, Copy, Debug, PartialEq, Eq)]
 pub enum Side {
     Seller,
     Mover,
 }
 
 // Where a refusal arose.
-#[derive(Clone, Copy)]
+#[derive(Clone, Copy, Debug, PartialEq, Eq)]
 pub enum Layer {
     Seller,
     Move,
@@ -52,7 +52,7 @@ pub enum Refusal {
 }
 
 // What a sweep did.
-#[derive(Clone, Copy)]
+#[derive(Clone, Copy, Debug, PartialEq, Eq)]
 pub enum Swept {
     Gone,
     Emptied,

@@ -3,6 +3,7 @@
 pub mod answers;
 pub mod cases;
 pub mod horizon;
+pub mod lent;
 pub mod notices;
 pub mod refusals;
 pub mod sheet;
