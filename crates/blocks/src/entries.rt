@@ -5,7 +5,7 @@ ghost use Rattle.blocks.specs.Blocks.{seat_of, free_of, bytes_answer, put_bytes,
 ghost use Rattle.blocks.specs.Cells.{entries_of};
 ghost use Rattle.blocks.specs.Few.{few_cells};
 
-use crate::block::tag_of;
+use crate::block::{fill, tag_of};
 use crate::store::BlockStore;
 use cold::store::{ColdRefusal, ColdStore, Found, NewStoreError};
 use keys::key::Key;
@@ -46,15 +46,15 @@ impl<K: Key, R: Packed> BlockStore<K, R> {
         ensures limit { self.new.limit ≡ self.old.limit }
     {
         let number = key.number();
-        if self.seat(number, tag) < self.limit {
+        if self.seat(number, tag).is_some() {
             return Err(ColdRefusal::There);
         }
-        let at = self.free();
-        if at < self.limit {
-            self.write(at, number, tag, row);
-            return Ok(());
-        }
-        Err(ColdRefusal::Full(self.limit))
+        let Some(place) = self.free() else {
+            return Err(ColdRefusal::Full(self.limit));
+        };
+        let start = place * 32;
+        fill(&mut self.bytes[start..start + 32], number, tag, row);
+        Ok(())
     }
 
     // Clears byte 12 of the place of a key and tag and no other byte, and tells whether there is one.
@@ -66,33 +66,11 @@ impl<K: Key, R: Packed> BlockStore<K, R> {
             ≡ removed_bytes self.old.limit self.old.bytes.items (K.Key.number key.now) tag }
         ensures limit { self.new.limit ≡ self.old.limit }
     {
-        let at = self.seat(key.number(), tag);
-        if at < self.limit {
-            self.clear(at);
-            return true;
-        }
-        false
-    }
-
-    // The entry of the key number with the smallest tag not below `tag`.
-    fn look(&self, number: u64, tag: u32) -> Option<Found<R>>
-        requires { in_order (entries_of R.Packed.unpacked self.now.limit self.now.bytes.items) ≡ true }
-        ensures { result ≡ found (entries_of R.Packed.unpacked self.now.limit self.now.bytes.items) number tag }
-    {
-        let mut at = self.limit;
-        let mut i = self.limit;
-        while i > 0 {
-            i -= 1;
-            at = self.better(i, at, number, tag);
-        }
-        if at >= self.limit {
-            return None;
-        }
-        let b = self.block(at);
-        Some(Found {
-            tag: tag_of(b),
-            row: R::unpack(&b[16..32]),
-        })
+        let Some(place) = self.seat(key.number(), tag) else {
+            return false;
+        };
+        self.bytes[place * 32 + 12] = 0;
+        true
     }
 }
 
@@ -105,12 +83,18 @@ impl<K: Key, R: Packed> ColdStore<K, R> for BlockStore<K, R> {
 
     ghost small = { λ s. s.small };
 
+    ghost ordered = { λ s. s.ordered };
+
     fn put(&mut self, key: K, tag: u32, row: R) -> Result<(), ColdRefusal> {
         self.put_entry(&key, tag, &row)
     }
 
     fn find(&self, key: &K, tag: u32) -> Option<Found<R>> {
-        self.look(key.number(), tag)
+        let block = self.nearest(key.number(), tag)?;
+        Some(Found {
+            tag: tag_of(block),
+            row: R::unpack(&block[16..32]),
+        })
     }
 
     fn remove(&mut self, key: &K, tag: u32) -> bool {

@@ -1,6 +1,8 @@
 ghost use Rattle.std.specs.Prelude.{◌≡◌, ◌*◌, ◌≤◌, true, vec_len};
 ghost use Rattle.cold.specs.Lists.{all};
+ghost use Rattle.cold.specs.Cold.{in_order};
 ghost use Rattle.blocks.specs.Blocks.{cut, is_tidy};
+ghost use Rattle.blocks.specs.Cells.{entries_of};
 
 use keys::key::Key;
 use keys::packing::Packed;
@@ -15,4 +17,5 @@ pub struct BlockStore<K: Key, R: Packed> {
     ghost long: { vec_len bytes ≡ 32 * limit },
     ghost small: { limit ≤ 1048576 },
     ghost tidy: { all is_tidy (cut 32 limit bytes.items) ≡ true },
+    ghost ordered: { in_order (entries_of R.Packed.unpacked limit bytes.items) ≡ true },
 }

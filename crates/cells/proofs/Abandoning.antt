@@ -1,8 +1,8 @@
 -- Abandon, and a commit without marks: rows that the session began go, and ends with its mark are open again.
 use Rattle.std.proofs.Common.{◌≡◌, ℕ, ◌<◌, ◌≤◌, Bool, true, false, cond, eqb, List, [], ◌++◌, Some, None, Option, sym, refl, ap, ◌∙◌, subst, inl, inr, arith}
 use Rattle.std.proofs.lemmas.Bool.{cases_Bool, or_parts}
-use Rattle.rules.specs.declared.tables.End.{End}
-use Rattle.rules.specs.declared.tables.End.TheVariants as e
+use Rattle.rules.specs.declared.times.Moment.{Moment}
+use Rattle.rules.specs.declared.times.Moment.TheVariants as moment
 use Rattle.rules.specs.declared.tables.HotRow.{HotRow}
 use Rattle.rules.specs.declared.tables.Kind.{Kind}
 use Rattle.rules.specs.declared.tables.Kind.TheVariants.{B}
@@ -27,20 +27,20 @@ use Rattle.cells.proofs.Cells.{c_empty, c_plain, c_idle, c_chosen, c_copied, c_b
 use Rattle.cells.proofs.Rising.{quiet_rise}
 use Rattle.cells.proofs.Sessions.{shut, shut_agree, shut_many, shut_early, shut_reads}
 
-reopen_yes : (s : ℕ) (y : End) → end_marked y s ≡ true → reopen s y ≡ e.Open
-reopen_yes s e.Open h = refl
-reopen_yes s (e.Stamp n) h = absurd (let z : ◌≡◌ {A = ℕ} 0 1 = cc in omega arith)
-reopen_yes s (e.Mark n) h = rw h
+reopen_yes : (s : ℕ) (y : Option Moment) → end_marked y s ≡ true → reopen s y ≡ None
+reopen_yes s None h = refl
+reopen_yes s (Some (moment.Stamp n)) h = absurd (let z : ◌≡◌ {A = ℕ} 0 1 = cc in omega arith)
+reopen_yes s (Some (moment.Mark n)) h = rw h
 
-reopen_no : (s : ℕ) (y : End) → end_marked y s ≡ false → reopen s y ≡ y
-reopen_no s e.Open h = refl
-reopen_no s (e.Stamp n) h = refl
-reopen_no s (e.Mark n) h = rw h
+reopen_no : (s : ℕ) (y : Option Moment) → end_marked y s ≡ false → reopen s y ≡ y
+reopen_no s None h = refl
+reopen_no s (Some (moment.Stamp n)) h = refl
+reopen_no s (Some (moment.Mark n)) h = rw h
 
-quiet_unmarked : (h s : ℕ) (y : End) → QuietEnd h y → end_marked y s ≡ false
-quiet_unmarked h s e.Open q = refl
-quiet_unmarked h s (e.Stamp n) q = refl
-quiet_unmarked h s (e.Mark n) q = elim q [ ]
+quiet_unmarked : (h s : ℕ) (y : Option Moment) → QuietEnd h y → end_marked y s ≡ false
+quiet_unmarked h s None q = refl
+quiet_unmarked h s (Some (moment.Stamp n)) q = refl
+quiet_unmarked h s (Some (moment.Mark n)) q = elim q [ ]
 
 module _ {K R : Type 0} where
   -- by the shape of a cell: the cell after, and the times that its notice then gives its entry
@@ -62,7 +62,7 @@ module _ {K R : Type 0} where
   ]
   undo_cell h g s l (c_both n d p q x z ne) = elim (cases_Bool (end_marked n.end s)) [
     | inl m ↦
-        let begun : Notice K = record { key = n.key; tag = n.tag; kind = B; begin = n.begin; end = e.Open } in
+        let begun : Notice K = record { key = n.key; tag = n.tag; kind = B; begin = n.begin; end = None } in
         (c_begun begun d (rw (p, m, q)) refl refl x (rw z), λ r. rw (p, m, q, reopen_yes s n.end m))
     | inr m ↦ (c_both n d (rw (p, m)) q x (rw z) ne, λ r. rw (p, m, q, reopen_no s n.end m))
   ]

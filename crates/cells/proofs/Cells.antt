@@ -3,13 +3,12 @@
 -- `Whole` joins the cells, the versions of every key, the sessions and the clock with the history of the run.
 use Rattle.std.proofs.Common.{◌≡◌, ℕ, ◌<◌, ◌≤◌, Bool, true, false, cond, ◌&&◌, eqb, List, [], ◌++◌, length, Some, None, Option}
 use Rattle.std.specs.List.{AllByRecursion as All}
-use Rattle.rules.specs.declared.tables.End.{End}
+use Rattle.rules.specs.declared.times.Moment.{Moment}
 use Rattle.rules.specs.declared.tables.HotRow.{HotRow}
 use Rattle.rules.specs.declared.tables.Kind.{Kind}
 use Rattle.rules.specs.declared.tables.Notice.{Notice}
 use Rattle.rules.specs.declared.sheet.Reading.{Reading}
-use Rattle.rules.specs.declared.tables.Begin.TheVariants as b
-use Rattle.rules.specs.declared.tables.End.TheVariants as e
+use Rattle.rules.specs.declared.times.Moment.TheVariants as moment
 use Rattle.rules.specs.declared.tables.MoveMark.TheVariants.{Chosen, Copied}
 use Rattle.rules.specs.declared.tables.Kind.TheVariants.{N, B, E, BE, X}
 use Rattle.cold.specs.Cold.{Entry, is_of}
@@ -23,16 +22,16 @@ use Rattle.versions.proofs.Versions.{Version, Rel, Tidy}
 use Rattle.cells.proofs.Horizons.{Early}
 
 -- an end that no reader above the horizon h tells from one that is past: open, or a stamp up to h
-abbrev pub QuietEnd : ℕ → End → Type 0
-QuietEnd h e.Open = Unit {0}
-QuietEnd h (e.Stamp n) = n ≤ h
-QuietEnd h (e.Mark s) = ⊥
+abbrev pub QuietEnd : ℕ → Option Moment → Type 0
+QuietEnd h None = Unit {0}
+QuietEnd h (Some (moment.Stamp n)) = n ≤ h
+QuietEnd h (Some (moment.Mark s)) = ⊥
 
 -- a notice that waits for its row to arrive: N, with the times of an entry that has no notice
 pub record Pending {K : Type 0} (n : Notice K) : Type 0 where
   pub kind : n.kind ≡ N
   pub begin : n.begin ≡ 1
-  pub end : n.end ≡ e.Open
+  pub end : n.end ≡ None
 
 module _ {K R : Type 0} where
   -- the notices ns, the entries es and the rows on the move ms of a cell, h being the horizon
@@ -43,11 +42,11 @@ module _ {K R : Type 0} where
     -- N with no row on the move; N with a chosen row; N with a copied row and its entry
     c_idle : (n : Notice K) → ns ≡ one n → Pending n → length es ≤ 1 → ms ≡ [] → Cell h ns es ms
     c_chosen : (n : Notice K) (m : HotRow K R) (i : ℕ) → ns ≡ one n → Pending n → es ≡ [] → ms ≡ one m
-        → (t : ℕ) → m.mark ≡ Chosen t → m.begin ≡ b.Stamp i → m.end ≡ e.Open → Cell h ns es ms
+        → (t : ℕ) → m.mark ≡ Chosen t → m.begin ≡ moment.Stamp i → m.end ≡ None → Cell h ns es ms
     c_copied : (n : Notice K) (m : HotRow K R) (i : ℕ) (c : Entry R) → ns ≡ one n → Pending n → es ≡ one c → ms ≡ one m
-        → (t : ℕ) → m.mark ≡ Copied t → m.begin ≡ b.Stamp i → m.end ≡ e.Open → c.row ≡ m.row → Cell h ns es ms
+        → (t : ℕ) → m.mark ≡ Copied t → m.begin ≡ moment.Stamp i → m.end ≡ None → c.row ≡ m.row → Cell h ns es ms
     -- B, E or BE with its entry
-    c_begun : (n : Notice K) (c : Entry R) → ns ≡ one n → n.kind ≡ B → n.end ≡ e.Open → es ≡ one c → ms ≡ [] → Cell h ns es ms
+    c_begun : (n : Notice K) (c : Entry R) → ns ≡ one n → n.kind ≡ B → n.end ≡ None → es ≡ one c → ms ≡ [] → Cell h ns es ms
     c_ended : (n : Notice K) (c : Entry R) → ns ≡ one n → n.kind ≡ E → n.begin ≡ 1 → es ≡ one c → ms ≡ []
         → open_end n.end ≡ false → Cell h ns es ms
     c_both : (n : Notice K) (c : Entry R) → ns ≡ one n → n.kind ≡ BE → es ≡ one c → ms ≡ []
@@ -61,16 +60,16 @@ row_version h = record { begin = h.begin; end = h.end; row = h.row }
 
 module _ {R : Type 0} where
   -- the version of a cold entry with the row r, by its notice's kind, begin and end: N and X hide it
-  abbrev pub kind_version : Kind → ℕ → End → R → List (Version R)
+  abbrev pub kind_version : Kind → ℕ → Option Moment → R → List (Version R)
   kind_version N x y r = []
-  kind_version B x y r = one (record { begin = b.Stamp x; end = e.Open; row = r })
-  kind_version E x y r = one (record { begin = b.Stamp 1; end = y; row = r })
-  kind_version BE x y r = one (record { begin = b.Stamp x; end = y; row = r })
+  kind_version B x y r = one (record { begin = moment.Stamp x; end = None; row = r })
+  kind_version E x y r = one (record { begin = moment.Stamp 1; end = y; row = r })
+  kind_version BE x y r = one (record { begin = moment.Stamp x; end = y; row = r })
   kind_version X x y r = []
 
   -- without a notice it begins at 1 and is open
   abbrev pub entry_version : {K : Type 0} → Option (Notice K) → R → List (Version R)
-  entry_version None r = one (record { begin = b.Stamp 1; end = e.Open; row = r })
+  entry_version None r = one (record { begin = moment.Stamp 1; end = None; row = r })
   entry_version (Some n) r = kind_version n.kind n.begin n.end r
 
 module _ {K R : Type 0} (number : K → ℕ) where

@@ -1,13 +1,11 @@
 -- Choose keeps the relation: the chosen row and its new pending notice stand in a cell that was empty.
-use Rattle.std.proofs.Common.{◌≡◌, ℕ, ◌+◌, ◌<◌, true, false, ◌&&◌, [], ◌++◌, Some, sym, refl, ap, ◌∙◌, append-nil, arith}
+use Rattle.std.proofs.Common.{◌≡◌, ℕ, ◌+◌, ◌<◌, true, false, ◌&&◌, [], ◌++◌, Some, sym, refl, ap, ◌∙◌, append-nil, arith, None, Option}
 use Rattle.std.proofs.lemmas.Bool.{eqb-true, ne_eqb, and_parts}
-use Rattle.rules.specs.declared.tables.Begin.{Begin}
-use Rattle.rules.specs.declared.tables.End.{End}
+use Rattle.rules.specs.declared.times.Moment.{Moment}
 use Rattle.rules.specs.declared.tables.HotRow.{HotRow}
 use Rattle.rules.specs.declared.tables.MoveMark.{MoveMark}
 use Rattle.rules.specs.declared.tables.Notice.{Notice}
-use Rattle.rules.specs.declared.tables.Begin.TheVariants as b
-use Rattle.rules.specs.declared.tables.End.TheVariants as e
+use Rattle.rules.specs.declared.times.Moment.TheVariants as moment
 use Rattle.rules.specs.declared.tables.MoveMark.TheVariants.{Unmoved, Chosen, Copied}
 use Rattle.cold.specs.Cold.{is_of}
 use Rattle.rules.specs.Looking.{is_for}
@@ -23,11 +21,11 @@ use Rattle.cells.proofs.Shapes.{same_pair, pair_self, every_pair, cell_eq, no_no
 use Rattle.cells.proofs.OneCell.{SameElsewhere, whole_with}
 use Rattle.cells.proofs.Splitting.{Elsewhere, cold_calm}
 
-movable_is : (x : Begin) (y : End) → (stamped_begin x && open_end y) ≡ true → (i : ℕ) × (x ≡ b.Stamp i) × (y ≡ e.Open)
-movable_is (b.Stamp i) e.Open h = (i, refl, refl)
-movable_is (b.Stamp i) (e.Stamp n) h = absurd (let z : ◌≡◌ {A = ℕ} 0 1 = cc in omega arith)
-movable_is (b.Stamp i) (e.Mark n) h = absurd (let z : ◌≡◌ {A = ℕ} 0 1 = cc in omega arith)
-movable_is (b.Mark m) y h = absurd (let z : ◌≡◌ {A = ℕ} 0 1 = cc in omega arith)
+movable_is : (x : Moment) (y : Option Moment) → (stamped_begin x && open_end y) ≡ true → (i : ℕ) × (x ≡ moment.Stamp i) × (y ≡ None)
+movable_is (moment.Stamp i) None h = (i, refl, refl)
+movable_is (moment.Stamp i) (Some (moment.Stamp n)) h = absurd (let z : ◌≡◌ {A = ℕ} 0 1 = cc in omega arith)
+movable_is (moment.Stamp i) (Some (moment.Mark n)) h = absurd (let z : ◌≡◌ {A = ℕ} 0 1 = cc in omega arith)
+movable_is (moment.Mark m) y h = absurd (let z : ◌≡◌ {A = ℕ} 0 1 = cc in omega arith)
 
 unmoved_is : (m : MoveMark) → unmoved m ≡ true → m ≡ Unmoved
 unmoved_is Unmoved h = refl

@@ -1,9 +1,8 @@
 -- A commit with a stamp: the marks of the session become the stamp, on hot rows, on notices and so on every version.
-use Rattle.std.proofs.Common.{◌≡◌, ℕ, ◌+◌, ◌<◌, ◌≤◌, false, cond, eqb, List, [], ◌++◌, map, Some, None, Option, sym, refl, ap, ◌∙◌, inl, inr, arith}
+use Rattle.std.proofs.Common.{◌≡◌, ℕ, ◌+◌, ◌<◌, ◌≤◌, false, cond, eqb, List, [], ◌++◌, map, Some, None, Option, sym, refl, ap, ◌∙◌, arith}
 use mathlib.Core.List.{map-append}
-use Rattle.std.proofs.lemmas.Bool.{cases_Bool}
-use Rattle.rules.specs.declared.tables.End.{End}
-use Rattle.rules.specs.declared.tables.End.TheVariants as e
+use Rattle.rules.specs.declared.times.Moment.{Moment}
+use Rattle.rules.specs.declared.times.Moment.TheVariants as moment
 use Rattle.rules.specs.declared.tables.HotRow.{HotRow}
 use Rattle.rules.specs.declared.tables.Kind.{Kind}
 use Rattle.rules.specs.declared.tables.Kind.TheVariants.{N, B, E, BE, X}
@@ -24,21 +23,20 @@ use Rattle.cells.proofs.Cells.{c_empty, c_plain, c_idle, c_chosen, c_copied, c_b
 use Rattle.cells.proofs.Sessions.{shut, shut_agree, shut_many, shut_early, shut_reads}
 
 -- an end that is quiet has no mark, so the stamp leaves it
-quiet_stamp : (h g s c : ℕ) (y : End) → h ≤ g → QuietEnd h y → QuietEnd g (stamp_end s c y)
-quiet_stamp h g s c e.Open l q = tt
-quiet_stamp h g s c (e.Stamp n) l q = omega arith
-quiet_stamp h g s c (e.Mark n) l q = elim q [ ]
+quiet_stamp : (h g s c : ℕ) (y : Option Moment) → h ≤ g → QuietEnd h y → QuietEnd g (stamp_end s c y)
+quiet_stamp h g s c None l q = tt
+quiet_stamp h g s c (Some (moment.Stamp n)) l q = omega arith
+quiet_stamp h g s c (Some (moment.Mark n)) l q = elim q [ ]
 
-stamp_closed : (s c : ℕ) (y : End) → open_end y ≡ false → open_end (stamp_end s c y) ≡ false
-stamp_closed s c e.Open h = h
-stamp_closed s c (e.Stamp n) h = refl
-stamp_closed s c (e.Mark n) h = elim (cases_Bool (eqb n s)) [ inl q ↦ rw q | inr q ↦ rw q ]
+stamp_closed : (s c : ℕ) (y : Option Moment) → open_end y ≡ false → open_end (stamp_end s c y) ≡ false
+stamp_closed s c None h = h
+stamp_closed s c (Some x) h = refl
 
 stamp_pending : {K : Type 0} (s c : ℕ) (n : Notice K) → Pending n → Pending (stamp_notice s c n)
 stamp_pending s c n p = record { kind = p.kind; begin = p.begin; end = rw p.end }
 
 module _ {R : Type 0} where
-  stamp_kind : (s c : ℕ) (kind : Kind) (x : ℕ) (y : End) (r : R)
+  stamp_kind : (s c : ℕ) (kind : Kind) (x : ℕ) (y : Option Moment) (r : R)
       → kind_version kind x (stamp_end s c y) r ≡ map (stamp_version s c) (kind_version kind x y r)
   stamp_kind s c N x y r = refl
   stamp_kind s c B x y r = refl

@@ -1,13 +1,11 @@
 -- A key is in conflict for a session just where a version of it has another session's mark or a stamp above the read time,
 -- and so just where the history has such a write: two stores of one history are in conflict alike.
-use Rattle.std.proofs.Common.{◌≡◌, ℕ, ◌≤◌, Bool, false, ◌||◌, ltb, List, None, ◌∙◌, arith}
+use Rattle.std.proofs.Common.{◌≡◌, ℕ, ◌≤◌, Bool, false, ◌||◌, ltb, List, None, ◌∙◌, arith, Some, Option}
 use Rattle.std.specs.List.{AllByRecursion as All}
 use Rattle.std.proofs.lemmas.Bool.{or_parts}
 use Rattle.std.proofs.lemmas.Bool.Decides.{nat_tests}
-use Rattle.rules.specs.declared.tables.Begin.{Begin}
-use Rattle.rules.specs.declared.tables.End.{End}
-use Rattle.rules.specs.declared.tables.Begin.TheVariants as b
-use Rattle.rules.specs.declared.tables.End.TheVariants as e
+use Rattle.rules.specs.declared.times.Moment.{Moment}
+use Rattle.rules.specs.declared.times.Moment.TheVariants as moment
 use Rattle.rules.specs.Looking.{notice_foreign, hot_foreign, conflict}
 use Rattle.rules.specs.Stores.{Store, horizon_of}
 use Rattle.rules.specs.Times.{foreign_begin, foreign_end}
@@ -22,7 +20,7 @@ use Rattle.cells.proofs.Cells.{QuietEnd, versions, Whole}
 use Rattle.cells.proofs.Telling.{FailsPast, FailsParts, tells_notices, tells_hot, tells_versions, or_open, or_one}
 
 -- the test for session s with read time t
-abbrev foreign : ℕ → ℕ → Begin → End → Bool
+abbrev foreign : ℕ → ℕ → Moment → Option Moment → Bool
 foreign s t x y = foreign_begin x s t || foreign_end y s t
 
 foreign_parts : (s t : ℕ) → 1 ≤ t → FailsParts (foreign s t)
@@ -32,10 +30,10 @@ foreign_parts s t late = record {
   ones = λ x y free. or_one t x (foreign_end y s t) late free;
 }
 
-foreign_quiet : (s t h x : ℕ) (y : End) → h ≤ t → x ≤ h → QuietEnd h y → foreign s t (b.Stamp x) y ≡ false
-foreign_quiet s t h x e.Open from low quiet = grind (arith, nat_tests)
-foreign_quiet s t h x (e.Stamp n) from low quiet = grind (arith, nat_tests)
-foreign_quiet s t h x (e.Mark n) from low quiet = elim quiet [ ]
+foreign_quiet : (s t h x : ℕ) (y : Option Moment) → h ≤ t → x ≤ h → QuietEnd h y → foreign s t (moment.Stamp x) y ≡ false
+foreign_quiet s t h x None from low quiet = grind (arith, nat_tests)
+foreign_quiet s t h x (Some (moment.Stamp n)) from low quiet = grind (arith, nat_tests)
+foreign_quiet s t h x (Some (moment.Mark n)) from low quiet = elim quiet [ ]
 
 foreign_past : (s t h : ℕ) → 1 ≤ t → h ≤ t → FailsPast h (foreign s t)
 foreign_past s t h late from = record { plain = grind (arith, nat_tests); quiet = λ x y low quiet. foreign_quiet s t h x y from low quiet }

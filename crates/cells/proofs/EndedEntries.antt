@@ -1,8 +1,7 @@
 -- Ending a cold entry that a session sees: its notice is turned, or a new one is added, with the session's mark as the end.
 use Rattle.std.proofs.Common.{◌≡◌, ℕ, Bool, true, false, cond, ◌&&◌, eqb, List, [], ◌∷◌, ◌++◌, Some, None, sym, refl, ap, ◌∙◌, inl, inr, append_assoc, append-nil, arith}
 use Rattle.std.proofs.lemmas.Bool.{cases_Bool, eqb-true, eq-eqb, ne_eqb, and_parts}
-use Rattle.rules.specs.declared.tables.Begin.TheVariants as b
-use Rattle.rules.specs.declared.tables.End.TheVariants as e
+use Rattle.rules.specs.declared.times.Moment.TheVariants as moment
 use Rattle.rules.specs.declared.tables.Kind.{Kind}
 use Rattle.rules.specs.declared.tables.Kind.TheVariants.{N, B, E, BE, X}
 use Rattle.rules.specs.declared.tables.Notice.{Notice}
@@ -28,7 +27,7 @@ use Rattle.cells.proofs.Writes.{MayWrite, Freed, freed_by}
 module _ {R : Type 0} where
   -- a version with the session's mark as its end
   abbrev marked : ℕ → Version R → Version R
-  marked s v = record { begin = v.begin; end = e.Mark s; row = v.row }
+  marked s v = record { begin = v.begin; end = Some (moment.Mark s); row = v.row }
 
 -- the kind of a notice whose entry is ended
 abbrev ended_kind : Kind → Kind
@@ -98,7 +97,7 @@ module _ {K R : Type 0} (number : K → ℕ) {σ : Store K R} {T : History R} {s
       let here : kept its memo ≡ one (new_end s key tag) =
       ap (kept its) more ∙ (added k tag true (pair_self k tag) ∙ ap (λ u. u ++ one (new_end s key tag)) p) in
       record {
-        v = record { begin = b.Stamp 1; end = e.Open; row = c.row };
+        v = record { begin = moment.Stamp 1; end = None; row = c.row };
         was = ap (λ o. entry_version o c.row) no;
         now = ap (λ o. entry_version o c.row) (first_of_one its memo (new_end s key tag) here);
         sees = ap (λ o. noted_sees o s time) (sym no) ∙ seen;
@@ -129,13 +128,13 @@ module _ {K R : Type 0} (number : K → ℕ) {σ : Store K R} {T : History R} {s
         ∙ kept_hit its (end_notice s n) (of_cell k tag ∙ pair_self k tag))
 
     by_some : (kind : Kind) → n.kind ≡ kind → (v : Version R) → kind_version kind n.begin n.end c.row ≡ one v
-        → kind_version (ended_kind kind) n.begin (e.Mark s) c.row ≡ one (marked s v) → v_sees s time v ≡ true
+        → kind_version (ended_kind kind) n.begin (Some (moment.Mark s)) c.row ≡ one (marked s v) → v_sees s time v ≡ true
         → Shape k tag (one (end_notice s n)) → Ended
     by_some kind q v was now sees cell = record {
       v = v;
       was = ap (λ o. entry_version o c.row) found ∙ (ap (λ u. kind_version u n.begin n.end c.row) q ∙ was);
       now = ap (λ o. entry_version o c.row) (first_of_one its memo (end_notice s n) here)
-          ∙ (ap (λ u. kind_version (ended_kind u) n.begin (e.Mark s) c.row) q ∙ now);
+          ∙ (ap (λ u. kind_version (ended_kind u) n.begin (Some (moment.Mark s)) c.row) q ∙ now);
       sees = sees;
       calm = λ i j o.
           ap (kept (is_for number i j)) turned
@@ -159,13 +158,13 @@ module _ {K R : Type 0} (number : K → ℕ) {σ : Store K R} {T : History R} {s
   ended_cell (c_chosen n h i p q u z t a d y) = hidden n p N q.kind refl
   ended_cell (c_copied n h i d p q u z t a f y g) = hidden n p N q.kind refl
   ended_cell (c_begun n d p q u f z) =
-      by_some n p B q (record { begin = b.Stamp n.begin; end = e.Open; row = c.row }) refl refl (sees_kind n p B q)
+      by_some n p B q (record { begin = moment.Stamp n.begin; end = None; row = c.row }) refl refl (sees_kind n p B q)
       (c_both (end_notice s n) c refl (ap ended_kind q) one_entry z refl)
   ended_cell (c_ended n d p q u f z ne) =
-      by_some n p E q (record { begin = b.Stamp 1; end = n.end; row = c.row }) refl refl (sees_kind n p E q)
+      by_some n p E q (record { begin = moment.Stamp 1; end = n.end; row = c.row }) refl refl (sees_kind n p E q)
       (c_ended (end_notice s n) c refl (ap ended_kind q) u one_entry z refl)
   ended_cell (c_both n d p q f z ne) =
-      by_some n p BE q (record { begin = b.Stamp n.begin; end = n.end; row = c.row }) refl refl (sees_kind n p BE q)
+      by_some n p BE q (record { begin = moment.Stamp n.begin; end = n.end; row = c.row }) refl refl (sees_kind n p BE q)
       (c_both (end_notice s n) c refl (ap ended_kind q) one_entry z refl)
   ended_cell (c_emptied n p q u v f z) = hidden n p X q refl
 

@@ -1,8 +1,8 @@
 -- What a lookup finds is what the history shows, under the session's own writes.
 use Rattle.std.proofs.Common.{◌≡◌, ℕ, Bool, true, false, cond, ◌&&◌, eqb, List, [], ◌∷◌, ◌++◌, Some, None, Option, sym, refl, ap, ◌∙◌, subst, inl, inr, append-nil, arith}
 use Rattle.std.proofs.lemmas.Bool.{cases_Bool}
+use Rattle.rules.specs.declared.times.Moment.{Moment}
 use Rattle.rules.specs.declared.sheet.Reading.{Reading}
-use Rattle.rules.specs.declared.tables.End.{End}
 use Rattle.rules.specs.declared.tables.HotRow.{HotRow}
 use Rattle.rules.specs.declared.tables.Kind.{Kind}
 use Rattle.rules.specs.declared.tables.Kind.TheVariants.{N, B, E, BE, X}
@@ -52,7 +52,7 @@ module _ {R : Type 0} where
   rows_one_if p false v = refl
 
   -- the times that a notice gives its entry are seen as the rule says
-  kind_rows : (kind : Kind) (x : ℕ) (y : End) (r : R) (s t : ℕ)
+  kind_rows : (kind : Kind) (x : ℕ) (y : Option Moment) (r : R) (s t : ℕ)
       → rows (v_sees s t) (kind_version kind x y r) ≡ one_if (kind_sees kind x y s t) r
   unfolding each
   kind_rows N x y r s t = refl

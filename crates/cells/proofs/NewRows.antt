@@ -1,8 +1,7 @@
 -- A new row of a key: where the session sees nothing of the key and has begun no version of it, its put adds one.
-use Rattle.std.proofs.Common.{◌≡◌, ℕ, false, eqb, List, [], ◌++◌, Some, sym, refl, ap, ◌∙◌, subst, append_assoc, append-nil, arith}
+use Rattle.std.proofs.Common.{◌≡◌, ℕ, false, eqb, List, [], ◌++◌, Some, sym, refl, ap, ◌∙◌, subst, append_assoc, append-nil, arith, None}
 use Rattle.std.proofs.lemmas.Bool.{eq-eqb, ne_eqb, and_right}
-use Rattle.rules.specs.declared.tables.Begin.TheVariants as b
-use Rattle.rules.specs.declared.tables.End.TheVariants as e
+use Rattle.rules.specs.declared.times.Moment.TheVariants as moment
 use Rattle.rules.specs.declared.tables.HotRow.{HotRow}
 use Rattle.rules.specs.Selling.{hot_own, new_row, push_hot}
 use Rattle.rules.specs.Stores.{Store, horizon_of}
@@ -39,7 +38,7 @@ module _ {K R : Type 0} (number : K → ℕ) where
     new = new_row s key row
 
     abbrev its : Version R
-    its = record { begin = b.Mark s; end = e.Open; row = row }
+    its = record { begin = moment.Mark s; end = None; row = row }
 
     abbrev hot : ℕ → List (Version R)
     hot j = hot_part number σ.hot j

@@ -1,7 +1,7 @@
 -- Put and drop on the session's own unfinished version: its row is replaced, or it is taken out.
 use Rattle.std.proofs.Common.{◌≡◌, ℕ, Bool, true, false, cond, eqb, List, [], ◌∷◌, ◌++◌, Some, None, Option, sym, refl, ap, ◌∙◌, inl, inr, arith}
 use Rattle.std.proofs.lemmas.Bool.{cases_Bool, and_parts}
-use Rattle.rules.specs.declared.tables.Begin.TheVariants as b
+use Rattle.rules.specs.declared.times.Moment.TheVariants as moment
 use Rattle.rules.specs.declared.tables.HotRow.{HotRow}
 use Rattle.rules.specs.Selling.{hot_own, with_row, replace_own, drop_own}
 use Rattle.rules.specs.Stores.{Store, horizon_of}
@@ -63,7 +63,7 @@ module _ {K R : Type 0} (number : K → ℕ) {σ : Store K R} {T : History R} {s
         let cell = m.whole.sound.cells j tag in
         let lone = kept_it at (mover number j tag) t (few_movers _ _ _ _ cell) in
         let begun = under_move _ _ _ _ x cell lone in
-        let stamped : begin_marked (b.Stamp begun.stamp) s ≡ true = ap (λ z. begin_marked z s) (sym begun.begins) ∙ own in
+        let stamped : begin_marked (moment.Stamp begun.stamp) s ≡ true = ap (λ z. begin_marked z s) (sym begun.begins) ∙ own in
         let z : ◌≡◌ {A = ℕ} 0 1 = cc in
         omega arith)
     | inr t ↦ t

@@ -1,16 +1,16 @@
 -- A higher horizon leaves every cell its shape.
-use Rattle.std.proofs.Common.{ℕ, ◌≤◌, List, arith}
-use Rattle.rules.specs.declared.tables.End.{End}
-use Rattle.rules.specs.declared.tables.End.TheVariants as e
+use Rattle.std.proofs.Common.{ℕ, ◌≤◌, List, arith, None, Some, Option}
+use Rattle.rules.specs.declared.times.Moment.{Moment}
+use Rattle.rules.specs.declared.times.Moment.TheVariants as moment
 use Rattle.rules.specs.declared.tables.HotRow.{HotRow}
 use Rattle.rules.specs.declared.tables.Notice.{Notice}
 use Rattle.cold.specs.Cold.{Entry}
 use Rattle.cells.proofs.Cells.{Cell, QuietEnd, c_empty, c_plain, c_idle, c_chosen, c_copied, c_begun, c_ended, c_both, c_emptied}
 
-pub quiet_rise : (h g : ℕ) (y : End) → h ≤ g → QuietEnd h y → QuietEnd g y
-quiet_rise h g e.Open l q = tt
-quiet_rise h g (e.Stamp n) l q = omega arith
-quiet_rise h g (e.Mark n) l q = elim q [ ]
+pub quiet_rise : (h g : ℕ) (y : Option Moment) → h ≤ g → QuietEnd h y → QuietEnd g y
+quiet_rise h g None l q = tt
+quiet_rise h g (Some (moment.Stamp n)) l q = omega arith
+quiet_rise h g (Some (moment.Mark n)) l q = elim q [ ]
 
 module _ {K R : Type 0} where
   pub cell_rise : (h g : ℕ) {ns : List (Notice K)} {es : List (Entry R)} {ms : List (HotRow K R)}

@@ -1,14 +1,12 @@
 -- Settle keeps the relation: the version of the row that is taken out is the version that its cold entry now has.
-use Rattle.std.proofs.Common.{◌≡◌, ℕ, ◌≤◌, true, cond, ◌&&◌, eqb, List, [], ◌++◌, length, Some, refl, ap, ◌∙◌, subst, append_assoc, arith}
+use Rattle.std.proofs.Common.{◌≡◌, ℕ, ◌≤◌, true, cond, ◌&&◌, eqb, List, [], ◌++◌, length, Some, refl, ap, ◌∙◌, subst, append_assoc, arith, None, Option}
 use Rattle.std.proofs.lemmas.Bool.{eqb-true, and_parts}
-use Rattle.rules.specs.declared.tables.Begin.{Begin}
-use Rattle.rules.specs.declared.tables.End.{End}
+use Rattle.rules.specs.declared.times.Moment.{Moment}
 use Rattle.rules.specs.declared.tables.HotRow.{HotRow}
 use Rattle.rules.specs.declared.tables.Kind.{Kind}
 use Rattle.rules.specs.declared.tables.MoveMark.{MoveMark}
 use Rattle.rules.specs.declared.tables.Notice.{Notice}
-use Rattle.rules.specs.declared.tables.Begin.TheVariants as b
-use Rattle.rules.specs.declared.tables.End.TheVariants as e
+use Rattle.rules.specs.declared.times.Moment.TheVariants as moment
 use Rattle.rules.specs.declared.tables.Kind.TheVariants.{N}
 use Rattle.rules.specs.declared.tables.MoveMark.TheVariants.{Unmoved, Chosen, Copied}
 use Rattle.rules.specs.declared.notices.NoticeEvent.TheVariants.{Settle}
@@ -37,8 +35,8 @@ copied_is (Copied u) t h = ap Copied (eqb-true u t h)
 
 module _ {R : Type 0} where
   -- the version of an entry whose notice was pending, once the row's begin is in the notice
-  settled_version : (kind : Kind) (old : ℕ) (end : End) (x : Begin) (y : End) (i : ℕ) (r q : R)
-      → kind ≡ N → x ≡ b.Stamp i → y ≡ e.Open → r ≡ q
+  settled_version : (kind : Kind) (old : ℕ) (end : Option Moment) (x : Moment) (y : Option Moment) (i : ℕ) (r q : R)
+      → kind ≡ N → x ≡ moment.Stamp i → y ≡ None → r ≡ q
       → kind_version (kind_or kind (becomes kind Settle)) (settled_begin kind old (begin_stamp x)) end r
       ≡ one (record { begin = x; end = y; row = q })
   settled_version kind old end x y i r q waits begins ends same = rw (waits, begins, ends, same)

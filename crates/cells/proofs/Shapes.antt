@@ -1,11 +1,10 @@
 -- What the shape of a cell says of its parts, and how a fact of every cell is joined from one cell and the others.
-use Rattle.std.proofs.Common.{◌≡◌, ℕ, ◌≤◌, Bool, true, false, ◌&&◌, eqb, ◌⊎◌, List, [], length, refl, subst, inl, inr, arith}
+use Rattle.std.proofs.Common.{◌≡◌, ℕ, ◌≤◌, Bool, true, false, ◌&&◌, eqb, ◌⊎◌, List, [], length, refl, subst, inl, inr, arith, None}
 use Rattle.std.proofs.lemmas.Bool.{cases_Bool, eqb-true, eq-eqb, and_parts}
 use Rattle.rules.specs.declared.tables.HotRow.{HotRow}
 use Rattle.rules.specs.declared.tables.MoveMark.{MoveMark}
 use Rattle.rules.specs.declared.tables.Notice.{Notice}
-use Rattle.rules.specs.declared.tables.Begin.TheVariants as b
-use Rattle.rules.specs.declared.tables.End.TheVariants as e
+use Rattle.rules.specs.declared.times.Moment.TheVariants as moment
 use Rattle.rules.specs.declared.tables.MoveMark.TheVariants.{Unmoved, Chosen, Copied}
 use Rattle.cold.specs.Cold.{Entry}
 use Rattle.slots.specs.Lists.{one}
@@ -44,8 +43,8 @@ module _ {K R : Type 0} where
     pub notes : ns ≡ one note
     pub waits : Pending note
     pub stamp : ℕ
-    pub begins : h.begin ≡ b.Stamp stamp
-    pub ends : h.end ≡ e.Open
+    pub begins : h.begin ≡ moment.Stamp stamp
+    pub ends : h.end ≡ None
     pub held : Held h.mark h.row es
 
   pub cell_eq : {h : ℕ} {ns ns' : List (Notice K)} {es es' : List (Entry R)} {ms ms' : List (HotRow K R)}
@@ -108,7 +107,7 @@ module _ {K R : Type 0} where
 
   -- at most one row is on the move, and its end is open
   pub on_move : (h : ℕ) (ns : List (Notice K)) (es : List (Entry R)) (ms : List (HotRow K R)) → Cell h ns es ms
-      → (ms ≡ []) ⊎ ((m : HotRow K R) × (ms ≡ one m) × (m.end ≡ e.Open))
+      → (ms ≡ []) ⊎ ((m : HotRow K R) × (ms ≡ one m) × (m.end ≡ None))
   on_move h ns es ms (c_empty p q z) = inl z
   on_move h ns es ms (c_plain c p q z) = inl z
   on_move h ns es ms (c_idle n p q u z) = inl z

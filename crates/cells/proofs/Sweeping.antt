@@ -3,11 +3,10 @@ use Rattle.std.proofs.Common.{◌≡◌, ℕ, ◌≤◌, Bool, true, false, cond
 use Rattle.std.specs.List.{AllByRecursion as All}
 use Rattle.std.proofs.ByRecursion.{all_kept_by}
 use Rattle.std.proofs.lemmas.Bool.{cases_Bool, leb-true, and_parts}
-use Rattle.rules.specs.declared.tables.End.{End}
+use Rattle.rules.specs.declared.times.Moment.{Moment}
 use Rattle.rules.specs.declared.tables.Kind.{Kind}
 use Rattle.rules.specs.declared.tables.Notice.{Notice}
-use Rattle.rules.specs.declared.tables.Begin.TheVariants as b
-use Rattle.rules.specs.declared.tables.End.TheVariants as e
+use Rattle.rules.specs.declared.times.Moment.TheVariants as moment
 use Rattle.rules.specs.declared.tables.Kind.TheVariants.{N, B, E, BE, X}
 use Rattle.rules.specs.declared.notices.NoticeEvent.TheVariants.{Empty}
 use Rattle.cold.specs.Cold.{Entry, is_of, removed_after}
@@ -32,15 +31,15 @@ use Rattle.cells.proofs.Entries.{removed_here, removed_elsewhere, any_removed, e
 use Rattle.cells.proofs.Splitting.{Elsewhere, elsewhere_version, cold_calm, version_at, cond_nil}
 
 -- an end that is past is quiet, and no begin is above it
-past_quiet : (h : ℕ) (y : End) → end_past y h ≡ true → QuietEnd h y
-past_quiet h e.Open p = tt
-past_quiet h (e.Stamp m) p = leb-true m h p
-past_quiet h (e.Mark m) p = absurd (let z : ◌≡◌ {A = ℕ} 0 1 = cc in omega arith)
+past_quiet : (h : ℕ) (y : Option Moment) → end_past y h ≡ true → QuietEnd h y
+past_quiet h None p = tt
+past_quiet h (Some (moment.Stamp m)) p = leb-true m h p
+past_quiet h (Some (moment.Mark m)) p = absurd (let z : ◌≡◌ {A = ℕ} 0 1 = cc in omega arith)
 
-past_low : (h x : ℕ) (y : End) → end_past y h ≡ true → Shaped (b.Stamp x) y → x ≤ h
-past_low h x e.Open p s = absurd (let z : ◌≡◌ {A = ℕ} 0 1 = cc in omega arith)
-past_low h x (e.Stamp m) p s = omega (arith, leb-true m h p)
-past_low h x (e.Mark m) p s = absurd (let z : ◌≡◌ {A = ℕ} 0 1 = cc in omega arith)
+past_low : (h x : ℕ) (y : Option Moment) → end_past y h ≡ true → Shaped (moment.Stamp x) y → x ≤ h
+past_low h x None p s = absurd (let z : ◌≡◌ {A = ℕ} 0 1 = cc in omega arith)
+past_low h x (Some (moment.Stamp m)) p s = omega (arith, leb-true m h p)
+past_low h x (Some (moment.Mark m)) p s = absurd (let z : ◌≡◌ {A = ℕ} 0 1 = cc in omega arith)
 
 all_kept : {X : Type 0} (P : X → Type 0) (p : X → Bool) (xs : List X) → All P xs → All P (kept p xs)
 unfolding kept
@@ -247,14 +246,14 @@ module _ {K R : Type 0} (number : K → ℕ) (σ : Store K R) (T : History R) (w
             let kind : n.kind ≡ E = cc in
             let low : n.begin ≤ h = rw (sym (ap (λ x. x.begin) s) ∙ u) start in
             by_kind E kind (whole_emptied low (past_quiet h n.end (due_as E kind)) z
-            (fades_as E (λ r. []) kind (λ r a. fewer_past h (b.Stamp 1) n.end r a.0 (due_as E kind))))
+            (fades_as E (λ r. []) kind (λ r a. fewer_past h (moment.Stamp 1) n.end r a.0 (due_as E kind))))
         go (c_both m c p q x z ne) =
             let s : m ≡ n = cc lone in
             let kind : n.kind ≡ BE = cc in
             let shape = subst (λ k. All VShaped (kind_version k n.begin n.end c.row)) kind (own_shape c x) in
             let low = past_low h n.begin n.end (due_as BE kind) shape.0 in
             by_kind BE kind (whole_emptied low (past_quiet h n.end (due_as BE kind)) z
-            (fades_as BE (λ r. []) kind (λ r a. fewer_past h (b.Stamp n.begin) n.end r a.0 (due_as BE kind))))
+            (fades_as BE (λ r. []) kind (λ r a. fewer_past h (moment.Stamp n.begin) n.end r a.0 (due_as BE kind))))
         go (c_emptied m p q u v x z) =
             let s : m ≡ n = cc lone in
             let kind : n.kind ≡ X = cc in

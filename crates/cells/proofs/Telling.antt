@@ -4,13 +4,11 @@ use Rattle.std.proofs.Common.{◌≡◌, ℕ, ◌≤◌, Bool, true, false, ◌&
 use Rattle.std.specs.List.{AllByRecursion as All}
 use Rattle.std.proofs.lemmas.Bool.{cases_Bool, eqb-true, eq-eqb, and_parts}
 use Rattle.std.proofs.lemmas.Bool.Decides.{nat_tests}
-use Rattle.rules.specs.declared.tables.Begin.{Begin}
-use Rattle.rules.specs.declared.tables.End.{End}
+use Rattle.rules.specs.declared.times.Moment.{Moment}
 use Rattle.rules.specs.declared.tables.HotRow.{HotRow}
 use Rattle.rules.specs.declared.tables.Kind.{Kind}
 use Rattle.rules.specs.declared.tables.Notice.{Notice}
-use Rattle.rules.specs.declared.tables.Begin.TheVariants as b
-use Rattle.rules.specs.declared.tables.End.TheVariants as e
+use Rattle.rules.specs.declared.times.Moment.TheVariants as moment
 use Rattle.rules.specs.declared.tables.Kind.TheVariants.{N, B, E, BE, X}
 use Rattle.cold.specs.Cold.{Entry, is_of}
 use Rattle.rules.specs.Looking.{is_for, notice_for}
@@ -34,41 +32,41 @@ pub or_one : (t x : ℕ) (y : Bool) → 1 ≤ t → (ltb t x || y) ≡ false →
 or_one t x y late free = grind (arith, nat_tests)
 
 -- a version that fails the test
-abbrev pub Free : {R : Type 0} → (Begin → End → Bool) → Version R → Type 0
+abbrev pub Free : {R : Type 0} → (Moment → Option Moment → Bool) → Version R → Type 0
 Free g v = g v.begin v.end ≡ false
 
 -- a hot row and a notice of key k that pass it
 module _ {K : Type 0} (number : K → ℕ) where
-  abbrev pub hot_passes : {R : Type 0} → (Begin → End → Bool) → ℕ → HotRow K R → Bool
+  abbrev pub hot_passes : {R : Type 0} → (Moment → Option Moment → Bool) → ℕ → HotRow K R → Bool
   hot_passes g k x = eqb (number x.key) k && g x.begin x.end
 
-  abbrev pub notice_passes : (Begin → End → Bool) → ℕ → Notice K → Bool
-  notice_passes g k n = eqb (number n.key) k && g (b.Stamp n.begin) n.end
+  abbrev pub notice_passes : (Moment → Option Moment → Bool) → ℕ → Notice K → Bool
+  notice_passes g k n = eqb (number n.key) k && g (moment.Stamp n.begin) n.end
 
 -- a test that fails the times of an entry with no notice, and those of a notice X
-pub record FailsPast (h : ℕ) (g : Begin → End → Bool) : Type 0 where
-  pub plain : g (b.Stamp 1) e.Open ≡ false
-  pub quiet : (x : ℕ) (y : End) → x ≤ h → QuietEnd h y → g (b.Stamp x) y ≡ false
+pub record FailsPast (h : ℕ) (g : Moment → Option Moment → Bool) : Type 0 where
+  pub plain : g (moment.Stamp 1) None ≡ false
+  pub quiet : (x : ℕ) (y : Option Moment) → x ≤ h → QuietEnd h y → g (moment.Stamp x) y ≡ false
 
 -- a test that fails an open end and the begin 1 wherever it fails others in their place
-pub record FailsParts (g : Begin → End → Bool) : Type 0 where
-  pub plain : g (b.Stamp 1) e.Open ≡ false
-  pub opens : (x : ℕ) (y : End) → g (b.Stamp x) y ≡ false → g (b.Stamp x) e.Open ≡ false
-  pub ones : (x : ℕ) (y : End) → g (b.Stamp x) y ≡ false → g (b.Stamp 1) y ≡ false
+pub record FailsParts (g : Moment → Option Moment → Bool) : Type 0 where
+  pub plain : g (moment.Stamp 1) None ≡ false
+  pub opens : (x : ℕ) (y : Option Moment) → g (moment.Stamp x) y ≡ false → g (moment.Stamp x) None ≡ false
+  pub ones : (x : ℕ) (y : Option Moment) → g (moment.Stamp x) y ≡ false → g (moment.Stamp 1) y ≡ false
 
 -- From the versions to the notices and the hot rows. A pending notice fails the test
-module _ {h : ℕ} (g : Begin → End → Bool) (fails : FailsPast h g) where
+module _ {h : ℕ} (g : Moment → Option Moment → Bool) (fails : FailsPast h g) where
   pending_free : {K : Type 0} {ns : List (Notice K)} (m n : Notice K) → Pending m → ns ≡ one m → ns ≡ one n
-      → g (b.Stamp n.begin) n.end ≡ false
+      → g (moment.Stamp n.begin) n.end ≡ false
   pending_free m n waits p own =
       let same : m ≡ n = cc in
-      subst (λ x. g (b.Stamp x.begin) x.end ≡ false) same (rw (waits.begin, waits.end) fails.plain)
+      subst (λ x. g (moment.Stamp x.begin) x.end ≡ false) same (rw (waits.begin, waits.end) fails.plain)
 
   -- the notice of a cell fails the test if its entry's version does
   notice_free : {K R : Type 0} {ns : List (Notice K)} {es : List (Entry R)} {ms : List (HotRow K R)}
       → Cell h ns es ms → (n : Notice K) → ns ≡ one n
       → ((c : Entry R) → es ≡ one c → All (Free g) (kind_version n.kind n.begin n.end c.row))
-      → g (b.Stamp n.begin) n.end ≡ false
+      → g (moment.Stamp n.begin) n.end ≡ false
   notice_free (c_empty p q z) n own entry = none_and_one _ p own
   notice_free (c_plain c p q z) n own entry = none_and_one _ p own
   notice_free (c_idle m p waits u z) n own entry = pending_free m n waits p own
@@ -76,7 +74,7 @@ module _ {h : ℕ} (g : Begin → End → Bool) (fails : FailsPast h g) where
   notice_free (c_copied m x i c p waits u z t a d y v) n own entry = pending_free m n waits p own
   notice_free (c_begun m c p k u x z) n own entry =
       let kind : n.kind ≡ B = cc in
-      let end : n.end ≡ e.Open = cc in
+      let end : n.end ≡ None = cc in
       let free = rw kind at (entry c x) in
       rw end free.0
   notice_free (c_ended m c p k u x z ne) n own entry =
@@ -90,7 +88,7 @@ module _ {h : ℕ} (g : Begin → End → Bool) (fails : FailsPast h g) where
       free.0
   notice_free (c_emptied m p k u v x z) n own entry =
       let same : m ≡ n = cc in
-      subst (λ x. g (b.Stamp x.begin) x.end ≡ false) same (fails.quiet m.begin m.end u v)
+      subst (λ x. g (moment.Stamp x.begin) x.end ≡ false) same (fails.quiet m.begin m.end u v)
 
 module _ {K R : Type 0} (number : K → ℕ) (σ : Store K R) (k : ℕ) where
   -- what all versions of the key have, that of a notice's entry has
@@ -106,11 +104,11 @@ module _ {K R : Type 0} (number : K → ℕ) (σ : Store K R) (k : ℕ) where
       let parts = all_parts P (cold_version number σ.memo k) σ.cold (all_back P (hot_part number σ.hot k) _ all) in
       subst (All P) version (found_all (λ x. All P (cold_version number σ.memo k x)) (is_of k n.tag) σ.cold c parts found)
 
-  module _ (g : Begin → End → Bool) (all : All (Free g) (versions number σ k)) where
+  module _ (g : Moment → Option Moment → Bool) (all : All (Free g) (versions number σ k)) where
     pub tells_notices : {T : History R} → Whole number σ T → FailsPast (horizon_of σ) g → any (notice_passes number g k) σ.memo ≡ false
     tells_notices w fails = none_found (notice_passes number g k) σ.memo (λ n found.
         let place = spot (notice_passes number g k) σ.memo n found in
-        let its = and_parts (eqb (number n.key) k) (g (b.Stamp n.begin) n.end) place.passes in
+        let its = and_parts (eqb (number n.key) k) (g (moment.Stamp n.begin) n.end) place.passes in
         let cell = w.sound.cells k n.tag in
         let own = kept_it place (is_for number k n.tag) (rw (its.0, eq-eqb n.tag n.tag refl)) (few_notes _ _ _ _ cell) in
         let free = notice_free g fails cell n own (λ c entry. at_notice (Free g) n c all own entry) in
@@ -130,8 +128,8 @@ module _ {K R : Type 0} (number : K → ℕ) (σ : Store K R) (k : ℕ) where
         ]
 
 -- and back: where no hot row and no notice passes, no version does
-module _ {K R : Type 0} (number : K → ℕ) (σ : Store K R) (k : ℕ) (g : Begin → End → Bool) (fails : FailsParts g) where
-  kind_free : (kind : Kind) (x : ℕ) (y : End) (r : R) → g (b.Stamp x) y ≡ false → All (Free g) (kind_version kind x y r)
+module _ {K R : Type 0} (number : K → ℕ) (σ : Store K R) (k : ℕ) (g : Moment → Option Moment → Bool) (fails : FailsParts g) where
+  kind_free : (kind : Kind) (x : ℕ) (y : Option Moment) (r : R) → g (moment.Stamp x) y ≡ false → All (Free g) (kind_version kind x y r)
   kind_free N x y r free = tt
   kind_free B x y r free = (fails.opens x y free, tt)
   kind_free E x y r free = (fails.ones x y free, tt)

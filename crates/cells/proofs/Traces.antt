@@ -4,10 +4,8 @@ use Rattle.std.proofs.Common.{◌≡◌, ℕ, ◌≤◌, Bool, true, false, ◌|
 use Rattle.std.specs.List.{AllByRecursion as All}
 use Rattle.std.proofs.lemmas.Bool.{or_parts, and_right}
 use Rattle.std.proofs.lemmas.Bool.Decides.{nat_tests}
-use Rattle.rules.specs.declared.tables.Begin.{Begin}
-use Rattle.rules.specs.declared.tables.End.{End}
-use Rattle.rules.specs.declared.tables.Begin.TheVariants as b
-use Rattle.rules.specs.declared.tables.End.TheVariants as e
+use Rattle.rules.specs.declared.times.Moment.{Moment}
+use Rattle.rules.specs.declared.times.Moment.TheVariants as moment
 use Rattle.rules.specs.Looking.{above}
 use Rattle.rules.specs.Selling.{hot_marked, notice_marked, has_marks}
 use Rattle.rules.specs.Stores.{Store, horizon_of}
@@ -29,7 +27,7 @@ bool_eq false true f g = sym (f refl)
 bool_eq false false f g = refl
 
 -- a stamp above t
-abbrev stamp_above : ℕ → Begin → End → Bool
+abbrev stamp_above : ℕ → Moment → Option Moment → Bool
 stamp_above t x y = begin_above x t || end_above y t
 
 above_parts : (t : ℕ) → 1 ≤ t → FailsParts (stamp_above t)
@@ -39,25 +37,25 @@ above_parts t late = record {
   ones = λ x y free. or_one t x (end_above y t) late free;
 }
 
-above_quiet : (t h x : ℕ) (y : End) → h ≤ t → x ≤ h → QuietEnd h y → stamp_above t (b.Stamp x) y ≡ false
-above_quiet t h x e.Open from low quiet = grind (arith, nat_tests)
-above_quiet t h x (e.Stamp n) from low quiet = grind (arith, nat_tests)
-above_quiet t h x (e.Mark n) from low quiet = elim quiet [ ]
+above_quiet : (t h x : ℕ) (y : Option Moment) → h ≤ t → x ≤ h → QuietEnd h y → stamp_above t (moment.Stamp x) y ≡ false
+above_quiet t h x None from low quiet = grind (arith, nat_tests)
+above_quiet t h x (Some (moment.Stamp n)) from low quiet = grind (arith, nat_tests)
+above_quiet t h x (Some (moment.Mark n)) from low quiet = elim quiet [ ]
 
 above_past : (t h : ℕ) → 1 ≤ t → h ≤ t → FailsPast h (stamp_above t)
 above_past t h late from = record { plain = grind (arith, nat_tests); quiet = λ x y low quiet. above_quiet t h x y from low quiet }
 
 -- a mark of session s
-abbrev mark_of : ℕ → Begin → End → Bool
+abbrev mark_of : ℕ → Moment → Option Moment → Bool
 mark_of s x y = begin_marked x s || end_marked y s
 
 mark_parts : (s : ℕ) → FailsParts (mark_of s)
 mark_parts s = record { plain = refl; opens = λ x y free. refl; ones = λ x y free. free }
 
-mark_quiet : (s h : ℕ) (y : End) → QuietEnd h y → end_marked y s ≡ false
-mark_quiet s h e.Open quiet = refl
-mark_quiet s h (e.Stamp n) quiet = refl
-mark_quiet s h (e.Mark n) quiet = elim quiet [ ]
+mark_quiet : (s h : ℕ) (y : Option Moment) → QuietEnd h y → end_marked y s ≡ false
+mark_quiet s h None quiet = refl
+mark_quiet s h (Some (moment.Stamp n)) quiet = refl
+mark_quiet s h (Some (moment.Mark n)) quiet = elim quiet [ ]
 
 mark_past : (s h : ℕ) → FailsPast h (mark_of s)
 mark_past s h = record { plain = refl; quiet = λ x y low quiet. mark_quiet s h y quiet }

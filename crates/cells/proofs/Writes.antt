@@ -5,8 +5,8 @@ use mathlib.Core.Path.{fun_ext}
 use Rattle.std.specs.List.{AllByRecursion as All}
 use Rattle.std.proofs.lemmas.Bool.{cases_Bool, cases_eq, eqb-true, eq-eqb, ne_eqb}
 use Rattle.std.proofs.lemmas.Bool.Decides.{nat_tests}
+use Rattle.rules.specs.declared.times.Moment.TheVariants as moment
 use Rattle.rules.specs.declared.sheet.Reading.{Reading}
-use Rattle.rules.specs.declared.tables.End.TheVariants as e
 use Rattle.rules.specs.declared.tables.HotRow.{HotRow}
 use Rattle.rules.specs.declared.tables.Notice.{Notice}
 use Rattle.rules.specs.Looking.{conflict}
@@ -188,7 +188,7 @@ module _ {K R : Type 0} (number : K → ℕ) where
     -- one version that is seen gets the session's mark as its end: the key is then ended for the session
     pub freed_by : (hot : List (HotRow K R)) (memo : List (Notice K)) (front : List (Version R)) (v : Version R) (back : List (Version R))
         → versions number σ k ≡ front ++ (v ∷ back)
-        → versions_of hot memo k ≡ front ++ (record { begin = v.begin; end = e.Mark s; row = v.row } ∷ back)
+        → versions_of hot memo k ≡ front ++ (record { begin = v.begin; end = Some (moment.Mark s); row = v.row } ∷ back)
         → v_sees s time v ≡ true → writes_of T.turn s k ≡ None
         → Sound number low σ.last_tag σ.admits hot memo σ.cold
         → ((j : ℕ) → (j ≡ k → ⊥) → versions_of hot memo j ≡ versions number σ j)

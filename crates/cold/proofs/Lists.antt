@@ -1,7 +1,8 @@
 -- Lemmas on the words of lists.
-use Rattle.std.proofs.Common.{◌≡◌, ℕ, zero, suc, ◌<◌, ◌≤◌, Bool, true, false, cond, ◌&&◌, ◌||◌, List, [], ◌∷◌, map, length, get_or, filter, sym, refl, ap, ◌∙◌, arith}
+use Rattle.std.proofs.Common.{◌≡◌, ℕ, zero, suc, ◌+◌, ◌<◌, ◌≤◌, Bool, true, false, cond, ◌&&◌, ◌||◌, List, [], ◌∷◌, map, length, get_or, filter, sym, refl, ap, ◌∙◌, arith}
+use Rattle.std.specs.List.{prefix_len}
 use Rattle.std.proofs.lemmas.Bool.{and_parts, and_from, or_from, cond-false}
-use Rattle.cold.specs.Lists.{all, any, rise, front, nth}
+use Rattle.cold.specs.Lists.{all, any, rise, nth}
 
 module _ {X : Type 0} where
   pub all_at : (p : X → Bool) (xs : List X) (i : ℕ) (d : X) → i < length xs → all p xs ≡ true → p (get_or xs i d) ≡ true
@@ -18,26 +19,6 @@ module _ {X : Type 0} where
   rise_pair b (x ∷ xs) zero (suc j) d e h l = all_at (b x) xs j d (omega arith) (and_parts (all (b x) xs) (rise b xs) e).0
   rise_pair b (x ∷ xs) (suc i) (suc j) d e h l = rise_pair b xs i j d (and_parts (all (b x) xs) (rise b xs) e).1 (omega arith) (omega arith)
 
-  pub front_is : (p : X → Bool) (xs : List X) (r : ℕ) → r ≤ length xs
-      → ((k : ℕ) (d : X) → k < r → p (get_or xs k d) ≡ true) → ((k : ℕ) (d : X) → r ≤ k → k < length xs → p (get_or xs k d) ≡ false) → r ≡ front p xs
-  unfolding front
-  front_is p [] r l f g = omega arith
-  front_is p (x ∷ xs) zero l f g = rw (g 0 x (omega arith) (omega arith)) refl
-  front_is p (x ∷ xs) (suc r) l f g =
-      let t : p x ≡ true = f 0 x (omega arith) in
-      let u = front_is p xs r (omega arith) (λ k d h. f (suc k) d (omega arith)) (λ k d h m. g (suc k) d (omega arith) (omega arith)) in
-      rw t (ap suc u)
-
-  pub front_at : (p : X → Bool) (xs : List X) (d : X) → front p xs < length xs → p (get_or xs (front p xs) d) ≡ false
-  unfolding front
-  front_at p [] d h = absurd (let z : ⊥ = omega arith in z)
-  front_at p (x ∷ xs) d h = go (p x) refl h (front_at p xs d)
-    where
-      go : (t : Bool) → p x ≡ t → cond t (suc (front p xs)) 0 < length (x ∷ xs) → (front p xs < length xs → p (get_or xs (front p xs) d) ≡ false)
-          → p (get_or (x ∷ xs) (cond t (suc (front p xs)) 0) d) ≡ false
-      go true e h r = r (omega arith)
-      go false e h r = e
-
   pub nth_at : {Y : Type 0} (xs : List X) (i : ℕ) (n : Y) (f : X → Y) (d : X) → i < length xs → nth xs i n f ≡ f (get_or xs i d)
   unfolding nth
   nth_at [] i n f d h = absurd (let z : ⊥ = omega arith in z)
@@ -50,10 +31,9 @@ module _ {X : Type 0} where
   nth_past (x ∷ xs) zero n f h = absurd (let z : ⊥ = omega arith in z)
   nth_past (x ∷ xs) (suc i) n f h = nth_past xs i n f (omega arith)
 
-pub front_map : {X Z : Type 0} (f : X → Z) (p : Z → Bool) (xs : List X) → front p (map f xs) ≡ front (λ x. p (f x)) xs
-unfolding front
-front_map f p [] = refl
-front_map f p (x ∷ xs) = ap (λ n. cond (p (f x)) (suc n) 0) (front_map f p xs)
+pub prefix_map : {X Z : Type 0} (f : X → Z) (p : Z → Bool) (xs : List X) → prefix_len p (map f xs) ≡ prefix_len (λ x. p (f x)) xs
+prefix_map f p [] = refl
+prefix_map f p (x ∷ xs) = ap (λ n. cond (p (f x)) (1 + n) 0) (prefix_map f p xs)
 
 pub nth_map : {X Y Z : Type 0} (g : X → Z) (xs : List X) (i : ℕ) (n : Y) (f : Z → Y) → nth (map g xs) i n f ≡ nth xs i n (λ x. f (g x))
 unfolding nth

@@ -1,10 +1,12 @@
 -- The place of a key number and tag in a list that is in order, and what stands there.
-use Rattle.std.proofs.Common.{◌≡◌, ℕ, suc, ◌+◌, ◌<◌, ◌≤◌, Bool, true, false, cond, not, ◌||◌, eqb, leb, List, [], ◌∷◌, length, get_or, Some, None, Option, sym, refl, ap, ◌∙◌, ⊎_elim, arith}
-use Rattle.std.specs.List.{remove}
-use Rattle.std.proofs.lemmas.Bool.{and_parts, both_ways, cases_Bool, cases_lt, cond-true, cond-false}
-use Rattle.std.proofs.lemmas.List.{get_or_read}
+use Rattle.std.proofs.Common.{◌≡◌, ℕ, ◌+◌, ◌<◌, ◌≤◌, Bool, true, false, cond, not, ◌||◌, eqb, leb, List, [], ◌∷◌, length, get_or, Some, None, Option, sym, refl, ap, ◌∙◌, ⊎_elim, arith}
+use Rattle.std.specs.List.{remove, prefix_len}
+use Rattle.std.specs.List.Sorted.{IsPartitionedBy, IsPartitionPoint}
+use Rattle.std.proofs.lemmas.List.Sums.{prefix_len_is}
+use Rattle.std.proofs.Math.Numerals.{one-add}
+use Rattle.std.proofs.lemmas.Bool.{and_parts, both_ways, cases_lt, cond-true, cond-false}
 use Rattle.std.proofs.lemmas.Bool.Decides.{nat_tests}
-use Rattle.cold.specs.Lists.{all, any, rise, front, nth}
+use Rattle.cold.specs.Lists.{all, any, rise, nth}
 use Rattle.cold.specs.Cold.{Entry, below_by, before, in_order, is_of, is_there, put_in, removed_after, is_own, own, told, first_of, found}
 use Rattle.cold.specs.Sorted.{place, of_key}
 use Rattle.cold.specs.declared.store.Found.{Found}
@@ -16,13 +18,13 @@ unfoldable pub seek : {X Y : Type 0} → (X → Bool) → Y → (X → Y) → Li
 seek p d f [] = d
 seek p d f (x ∷ xs) = cond (p x) (seek p d f xs) (f x)
 
-nth_front : {X Y : Type 0} (p : X → Bool) (d : Y) (f : X → Y) (xs : List X) → nth xs (front p xs) d f ≡ seek p d f xs
-unfolding seek front nth
+nth_front : {X Y : Type 0} (p : X → Bool) (d : Y) (f : X → Y) (xs : List X) → nth xs (prefix_len p xs) d f ≡ seek p d f xs
+unfolding seek nth
 nth_front p d f [] = refl
 nth_front p d f (x ∷ xs) = go (p x) (nth_front p d f xs)
   where
-    go : (t : Bool) → nth xs (front p xs) d f ≡ seek p d f xs → nth (x ∷ xs) (cond t (suc (front p xs)) 0) d f ≡ cond t (seek p d f xs) (f x)
-    go true i = i
+    go : (t : Bool) → nth xs (prefix_len p xs) d f ≡ seek p d f xs → nth (x ∷ xs) (cond t (1 + prefix_len p xs) 0) d f ≡ cond t (seek p d f xs) (f x)
+    go true i = rw one-add i
     go false i = refl
 
 pub below_trans : (a s b t c u : ℕ) → below_by a s b t ≡ true → below_by b t c u ≡ true → below_by a s c u ≡ true
@@ -86,16 +88,16 @@ module _ {R : Type 0} (n t : ℕ) where
 
   -- what is there is taken out at its place
   pub removed_at : (es : List (Entry R)) → in_order es ≡ true → is_there n t es ≡ true → remove es (place n t es) ≡ removed_after es n t
-  unfolding any rise front
+  unfolding any rise
   removed_at [] o h = absurd (both_ways false refl h)
   removed_at (x ∷ xs) o h =
       let a = and_parts (all (before x) xs) (in_order xs) o in go (low x) (is_of n t x) refl refl a.0 h (removed_at xs a.1)
     where
       go : (b q : Bool) → low x ≡ b → is_of n t x ≡ q → all (before x) xs ≡ true → (q || is_there n t xs) ≡ true
           → (is_there n t xs ≡ true → remove xs (place n t xs) ≡ removed_after xs n t)
-          → remove (x ∷ xs) (cond b (suc (place n t xs)) 0) ≡ cond (not q) (x ∷ removed_after xs n t) (removed_after xs n t)
+          → remove (x ∷ xs) (cond b (1 + place n t xs) 0) ≡ cond (not q) (x ∷ removed_after xs n t) (removed_after xs n t)
       go true true f g al h i = absurd (let z : ⊥ = grind (arith, nat_tests) in z)
-      go true false f g al h i = ap (λ ys. x ∷ ys) (i h)
+      go true false f g al h i = rw one-add (ap (λ ys. x ∷ ys) (i h))
       go false true f g al h i = sym (removed_none n t xs (all_none (before x) (is_of n t) xs al (λ y w. grind (arith, nat_tests))))
       go false false f g al h i = absurd (both_ways (is_there n t xs) (all_none (before x) (is_of n t) xs al (λ y w. grind (arith, nat_tests))) h)
 
@@ -127,32 +129,17 @@ module _ {R : Type 0} (n t : ℕ) where
   found_put_in e es = nth_front low None (of_key n) (put_in e es) ∙ seek_found e es
       ∙ ap (nearer n t (Some e)) (sym (nth_front low None (of_key n) es))
 
--- halving a table in order
-module _ {X : Type 0} (num tag : X → ℕ) (xs : List X) (n t m : ℕ) (x : X) (s : rise (λ y z. below_by (num y) (tag y) (num z) (tag z)) xs ≡ true)
-    (h : m < length xs) (r : x ≡ get_or xs m x) where
-  -- what stands at m comes before, and so does all to its left
-  pub left_of : true ≡ below_by (num x) (tag x) n t → (k : ℕ) (d : X) → k < m + 1 → below_by (num (get_or xs k d)) (tag (get_or xs k d)) n t ≡ true
-  left_of e k d l =
-      let q : x ≡ get_or xs m d = get_or_read xs m x h r d in
-      let e' : below_by (num (get_or xs m d)) (tag (get_or xs m d)) n t ≡ true = ap (λ y. below_by (num y) (tag y) n t) (sym q) ∙ sym e in
-      ⊎_elim
-      (λ (f : k < m). below_trans (num (get_or xs k d)) (tag (get_or xs k d)) (num (get_or xs m d)) (tag (get_or xs m d)) n t
-      (rise_pair (λ y z. below_by (num y) (tag y) (num z) (tag z)) xs k m d s f h) e')
-      (λ (f : m ≤ k). let z : k ≡ m = omega arith in rw z e')
-      (cases_lt k m)
+-- a table in order is parted by what comes before a key number and tag
+pub parted : {X : Type 0} (num tag : X → ℕ) (n t : ℕ) (xs : List X) → rise (λ y z. below_by (num y) (tag y) (num z) (tag z)) xs ≡ true
+    → IsPartitionedBy (λ y. below_by (num y) (tag y) n t) xs
+parted num tag n t xs s i j d h l e =
+    ⊎_elim
+    (λ (f : i < j). below_trans (num (get_or xs i d)) (tag (get_or xs i d)) (num (get_or xs j d)) (tag (get_or xs j d)) n t
+    (rise_pair (λ y z. below_by (num y) (tag y) (num z) (tag z)) xs i j d s f l) e)
+    (λ (f : j ≤ i). let z : i ≡ j = omega arith in rw z e)
+    (cases_lt i j)
 
-  -- what stands at m does not come before, and nor does what stands to its right
-  pub right_of : false ≡ below_by (num x) (tag x) n t → (k : ℕ) (d : X) → m ≤ k → k < length xs
-      → below_by (num (get_or xs k d)) (tag (get_or xs k d)) n t ≡ false
-  right_of e k d l i =
-      let q : x ≡ get_or xs m d = get_or_read xs m x h r d in
-      let e' : below_by (num (get_or xs m d)) (tag (get_or xs m d)) n t ≡ false = ap (λ y. below_by (num y) (tag y) n t) (sym q) ∙ sym e in
-      ⊎_elim
-      (λ (f : m < k). ⊎_elim
-      (λ (u : below_by (num (get_or xs k d)) (tag (get_or xs k d)) n t ≡ true). absurd
-      (both_ways _ e' (below_trans (num (get_or xs m d)) (tag (get_or xs m d)) (num (get_or xs k d)) (tag (get_or xs k d)) n t
-      (rise_pair (λ y z. below_by (num y) (tag y) (num z) (tag z)) xs m k d s f i) u)))
-      (λ u. u)
-      (cases_Bool (below_by (num (get_or xs k d)) (tag (get_or xs k d)) n t)))
-      (λ (f : k ≤ m). let z : k ≡ m = omega arith in rw z e')
-      (cases_lt m k)
+pub parted_at : {X : Type 0} (p : X → Bool) (xs : List X) (r : ℕ) → r ≤ length xs → IsPartitionPoint (λ y. p y ≡ true) (λ y. p y ≡ false) xs r
+    → r ≡ prefix_len p xs
+parted_at p [] r h e = omega arith
+parted_at p (x ∷ xs) r h e = sym (prefix_len_is p (x ∷ xs) r x h (λ k l. e.0 k x (omega arith) l) (λ l. e.1 r x (omega arith) l))

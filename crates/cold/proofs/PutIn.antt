@@ -1,22 +1,23 @@
 -- One entry put in where the order has it. No order is assumed but where it is said.
-use Rattle.std.proofs.Common.{◌≡◌, ℕ, suc, Bool, true, false, cond, not, ◌&&◌, ◌||◌, eqb, List, [], ◌∷◌, length, filter, sym, refl, ap, ◌∙◌, arith}
+use Rattle.std.proofs.Common.{◌≡◌, ℕ, suc, ◌+◌, Bool, true, false, cond, not, ◌&&◌, ◌||◌, eqb, List, [], ◌∷◌, length, filter, sym, refl, ap, ◌∙◌, arith}
 use Rattle.std.specs.List.{insert}
+use Rattle.std.proofs.Math.Numerals.{one-add}
 use Rattle.std.proofs.lemmas.Bool.{and_parts, and_from, or_parts, or_from, cond-true, cond-false, not_from_true, not_from_false}
 use Rattle.std.proofs.lemmas.Bool.Decides.{nat_tests}
-use Rattle.cold.specs.Lists.{all, any, rise, front}
+use Rattle.cold.specs.Lists.{all, any, rise}
 use Rattle.cold.specs.Cold.{Entry, before, in_order, is_of, is_there, put_in, removed_after}
 use Rattle.cold.specs.Sorted.{place}
 use Rattle.cold.proofs.Lists.{all_none, all_more}
 
 module _ {R : Type 0} where
   pub put_in_is : (e : Entry R) (es : List (Entry R)) → insert es (place e.number e.tag es) e ≡ put_in e es
-  unfolding put_in front
+  unfolding put_in
   put_in_is e [] = refl
   put_in_is e (x ∷ xs) = go (before x e) (put_in_is e xs)
     where
       go : (t : Bool) → insert xs (place e.number e.tag xs) e ≡ put_in e xs
-          → insert (x ∷ xs) (cond t (suc (place e.number e.tag xs)) 0) e ≡ cond t (x ∷ put_in e xs) (e ∷ (x ∷ xs))
-      go true i = ap (λ ys. x ∷ ys) i
+          → insert (x ∷ xs) (cond t (1 + place e.number e.tag xs) 0) e ≡ cond t (x ∷ put_in e xs) (e ∷ (x ∷ xs))
+      go true i = rw one-add (ap (λ ys. x ∷ ys) i)
       go false i = refl
 
   pub length_put_in : (e : Entry R) (es : List (Entry R)) → length (put_in e es) ≡ suc (length es)

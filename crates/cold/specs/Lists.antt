@@ -1,5 +1,5 @@
 -- Words on lists.
-use Rattle.std.specs.Prelude.{ℕ, zero, suc, Bool, true, cond, ◌&&◌, List, [], ◌∷◌}
+use Rattle.std.specs.Prelude.{ℕ, zero, suc, Bool, true, ◌&&◌, List, [], ◌∷◌}
 unfoldable pub use Rattle.slots.specs.Lists.{any}
 
 -- every element passes
@@ -11,11 +11,6 @@ all p (x ∷ xs) = p x && all p xs
 unfoldable pub rise : {X : Type 0} → (X → X → Bool) → List X → Bool
 rise b [] = true
 rise b (x ∷ xs) = all (b x) xs && rise b xs
-
--- how many elements at the front pass
-unfoldable pub front : {X : Type 0} → (X → Bool) → List X → ℕ
-front p [] = 0
-front p (x ∷ xs) = cond (p x) (suc (front p xs)) 0
 
 -- f of the element at a place, or n where there is none
 unfoldable pub nth : {X Y : Type 0} → List X → ℕ → Y → (X → Y) → Y

@@ -1,8 +1,7 @@
-ghost use Rattle.std.specs.Prelude.{◌≡◌, ◌≤◌, true, false, [], IfOk, None, vec_len, nat_lt};
-ghost use Rattle.cold.specs.Lists.{nth};
+ghost use Rattle.std.specs.Prelude.{◌≡◌, ◌≤◌, true, [], IfOk, vec_len, nat_lt};
 ghost use Rattle.cold.specs.Cold.{below_by, is_of, in_order};
 ghost use Rattle.cold.specs.New.{refused_limit};
-ghost use Rattle.cold.specs.Sorted.{meant, table, place, of_key};
+ghost use Rattle.cold.specs.Sorted.{meant, table, place, seat};
 ghost use Rattle.cold.specs.Few.{few_meant};
 
 use crate::sorted::{Held, SortedStore};
@@ -10,19 +9,20 @@ use crate::store::{ColdRefusal, ColdStore, Found, NewStoreError};
 use keys::key::OrderedKey;
 use std::alloc::Global;
 
-fn comes_before<K: OrderedKey, R>(h: &Held<K, R>, key: &K, tag: u32) -> bool
-    ensures { result ≡ below_by (K.Key.number h.now.key) h.now.tag (K.Key.number key.now) tag }
-{
-    if h.key.is_below(key) {
-        return true;
+impl<K: OrderedKey, R> Held<K, R> {
+    // Whether the entry comes before a key and tag.
+    fn is_before(&self, key: &K, tag: u32) -> bool
+        ensures { result ≡ below_by (K.Key.number self.now.key) self.now.tag (K.Key.number key.now) tag }
+    {
+        self.key.is_below(key) || self.key.number() == key.number() && self.tag < tag
     }
-    h.key.number() == key.number() && h.tag < tag
-}
 
-fn is_same<K: OrderedKey, R>(h: &Held<K, R>, key: &K, tag: u32) -> bool
-    ensures { result ≡ is_of (K.Key.number key.now) tag (meant K.Key.number h.now) }
-{
-    h.key.number() == key.number() && h.tag == tag
+    // Whether the entry has a key and tag.
+    fn is_of(&self, key: &K, tag: u32) -> bool
+        ensures { result ≡ is_of (K.Key.number key.now) tag (meant K.Key.number self.now) }
+    {
+        self.key.number() == key.number() && self.tag == tag
+    }
 }
 
 impl<K: OrderedKey, R: Copy> SortedStore<K, R> {
@@ -34,58 +34,27 @@ impl<K: OrderedKey, R: Copy> SortedStore<K, R> {
         if limit > 1048576 {
             return Err(NewStoreError::Limit);
         }
-        match Vec::with_capacity(heap, limit) {
-            Ok(items) => Ok(SortedStore { items, limit }),
-            Err(_) => Err(NewStoreError::Memory),
-        }
+        let items = Vec::with_capacity(heap, limit)?;
+        Ok(SortedStore { items, limit })
     }
 
     // How many entries come before a key and tag, by halving.
     fn place(&self, key: &K, tag: u32) -> usize
-        requires { in_order (table K.Key.number self.now.items.items) ≡ true }
         ensures bound { result ≤ vec_len self.now.items }
         ensures value { result ≡ place (K.Key.number key.now) tag (table K.Key.number self.now.items.items) }
     {
-        let mut low = 0;
-        let mut high = self.items.len();
-        while low < high {
-            let mid = low + (high - low) / 2;
-            if comes_before(&self.items[mid], key, tag) {
-                low = mid + 1;
-            } else {
-                high = mid;
-            }
-        }
-        low
+        self.items.partition_point(|h| h.is_before(key, tag))
     }
 
-    // Whether the entry at a place has the key and tag.
-    fn holds(&self, at: usize, key: &K, tag: u32) -> bool
-        ensures { result
-            ≡ nth (table K.Key.number self.now.items.items) at false (is_of (K.Key.number key.now) tag) }
+    // The place of a key and tag, or the place where they would go in.
+    fn seat(&self, key: &K, tag: u32) -> Result<usize, usize>
+        ensures { result ≡ seat (K.Key.number key.now) tag (table K.Key.number self.now.items.items) }
     {
-        if at < self.items.len() {
-            return is_same(&self.items[at], key, tag);
+        let at = self.place(key, tag);
+        match self.items.get(at) {
+            Some(h) if h.is_of(key, tag) => Ok(at),
+            _ => Err(at),
         }
-        false
-    }
-
-    // The entry at a place, if it has the key.
-    fn found_at(&self, at: usize, key: &K) -> Option<Found<R>>
-        ensures { result
-            ≡ nth (table K.Key.number self.now.items.items) at None (of_key (K.Key.number key.now)) }
-    {
-        if at >= self.items.len() {
-            return None;
-        }
-        let h = &self.items[at];
-        if h.key.number() != key.number() {
-            return None;
-        }
-        Some(Found {
-            tag: h.tag,
-            row: h.row,
-        })
     }
 }
 
@@ -98,30 +67,35 @@ impl<K: OrderedKey, R: Copy> ColdStore<K, R> for SortedStore<K, R> {
 
     ghost small = { λ s. s.small };
 
+    ghost ordered = { λ s. s.ordered };
+
     fn put(&mut self, key: K, tag: u32, row: R) -> Result<(), ColdRefusal> {
-        let at = self.place(&key, tag);
-        if self.holds(at, &key, tag) {
+        let Err(at) = self.seat(&key, tag) else {
             return Err(ColdRefusal::There);
-        }
+        };
         let count = self.items.len();
         if count == self.limit {
             return Err(ColdRefusal::Full(count));
         }
-        let _ = self.items.insert(at, Held { key, tag, row });
+        self.items.insert(at, Held { key, tag, row }).unwrap();
         Ok(())
     }
 
     fn find(&self, key: &K, tag: u32) -> Option<Found<R>> {
-        let at = self.place(key, tag);
-        self.found_at(at, key)
+        match self.items.get(self.place(key, tag)) {
+            Some(h) if h.key.number() == key.number() => Some(Found {
+                tag: h.tag,
+                row: h.row,
+            }),
+            _ => None,
+        }
     }
 
     fn remove(&mut self, key: &K, tag: u32) -> bool {
-        let at = self.place(key, tag);
-        if self.holds(at, key, tag) {
-            let _ = self.items.remove(at);
-            return true;
-        }
-        false
+        let Ok(at) = self.seat(key, tag) else {
+            return false;
+        };
+        self.items.remove(at);
+        true
     }
 }

@@ -1,4 +1,6 @@
-ghost use Rattle.std.specs.Prelude.{◌≤◌, vec_len, vec_capacity};
+ghost use Rattle.std.specs.Prelude.{◌≡◌, ◌≤◌, true, vec_len, vec_capacity};
+ghost use Rattle.cold.specs.Cold.{in_order};
+ghost use Rattle.cold.specs.Sorted.{table};
 
 use keys::key::OrderedKey;
 
@@ -18,4 +20,5 @@ pub struct SortedStore<K: OrderedKey, R: Copy> {
     ghost fits: { vec_len items ≤ limit },
     ghost roomy: { limit ≤ vec_capacity items },
     ghost small: { limit ≤ 1048576 },
+    ghost ordered: { in_order (table K.Key.number items.items) ≡ true },
 }

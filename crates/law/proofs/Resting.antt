@@ -1,12 +1,10 @@
 -- A store at rest: no session is open, and no row is on the move. Its horizon is its clock, and every notice is due.
-use Rattle.std.proofs.Common.{◌≡◌, ℕ, suc, Bool, true, false, not, ◌&&◌, ◌||◌, eqb, List, [], ◌∷◌, None, sym, refl, ap, ◌∙◌, subst, inl, inr, arith}
+use Rattle.std.proofs.Common.{◌≡◌, ℕ, suc, Bool, true, false, not, ◌&&◌, ◌||◌, eqb, List, [], ◌∷◌, None, sym, refl, ap, ◌∙◌, subst, inl, inr, arith, Some, Option, unwrap_or}
 use Rattle.std.specs.List.{AllByRecursion as All}
 use Rattle.std.proofs.lemmas.Bool.{cases_Bool, both_ways, not-false, not_from_false, eq-eqb, or_parts}
 use Rattle.std.proofs.lemmas.Bool.Decides.{nat_tests}
-use Rattle.rules.specs.declared.tables.Begin.{Begin}
-use Rattle.rules.specs.declared.tables.Begin.TheVariants as b
-use Rattle.rules.specs.declared.tables.End.{End}
-use Rattle.rules.specs.declared.tables.End.TheVariants as e
+use Rattle.rules.specs.declared.times.Moment.{Moment}
+use Rattle.rules.specs.declared.times.Moment.TheVariants as moment
 use Rattle.rules.specs.declared.tables.HotRow.{HotRow}
 use Rattle.rules.specs.declared.tables.Kind.{Kind}
 use Rattle.rules.specs.declared.tables.Kind.TheVariants.{N, B, E, BE, X}
@@ -15,7 +13,7 @@ use Rattle.rules.specs.declared.tables.MoveMark.TheVariants.{Unmoved, Chosen, Co
 use Rattle.rules.specs.declared.tables.Notice.{Notice}
 use Rattle.rules.specs.declared.sheet.Session.{Session}
 use Rattle.cold.specs.Cold.{Entry}
-use Rattle.rules.specs.Horizon.{lesser, least_time, or_clock}
+use Rattle.rules.specs.Horizon.{lesser, least_time}
 use Rattle.rules.specs.Looking.{is_for, above}
 use Rattle.rules.specs.Moving.{bears, unmoved, row_bears, due}
 use Rattle.rules.specs.Notices.{due_kind}
@@ -54,25 +52,25 @@ module _ {X : Type 0} where
   ]
 
 -- neither a mark nor a stamp above c
-abbrev pub DoneBy : ℕ → Begin → End → Type 0
+abbrev pub DoneBy : ℕ → Moment → Option Moment → Type 0
 DoneBy c x y = ((s : ℕ) → (begin_marked x s || end_marked y s) ≡ false) × ((begin_above x c || end_above y c) ≡ false)
 
 -- such an end is past at c, if it is not open
-ended_past : (c x : ℕ) (y : End) → DoneBy c (b.Stamp x) y → open_end y ≡ false → end_past y c ≡ true
-ended_past c x e.Open d ends = absurd (let z : ◌≡◌ {A = ℕ} 0 1 = cc in omega arith)
-ended_past c x (e.Stamp n) d ends = let low = d.1 in grind (arith, nat_tests)
-ended_past c x (e.Mark m) d ends = absurd (both_ways (eqb m m) (d.0 m) (eq-eqb m m refl))
+ended_past : (c x : ℕ) (y : Option Moment) → DoneBy c (moment.Stamp x) y → open_end y ≡ false → end_past y c ≡ true
+ended_past c x None d ends = absurd (let z : ◌≡◌ {A = ℕ} 0 1 = cc in omega arith)
+ended_past c x (Some (moment.Stamp n)) d ends = let low = d.1 in grind (arith, nat_tests)
+ended_past c x (Some (moment.Mark m)) d ends = absurd (both_ways (eqb m m) (d.0 m) (eq-eqb m m refl))
 
 -- the end of an E or a BE notice is not open
-abbrev EndsTold : Kind → End → Type 0
+abbrev EndsTold : Kind → Option Moment → Type 0
 EndsTold N y = Unit {0}
 EndsTold B y = Unit {0}
 EndsTold E y = open_end y ≡ false
 EndsTold BE y = open_end y ≡ false
 EndsTold X y = Unit {0}
 
-kind_due : (kind : Kind) (c x : ℕ) (y : End) (borne : Bool)
-    → EndsTold kind y → DoneBy c (b.Stamp x) y → borne ≡ false → due_kind kind x y c borne ≡ true
+kind_due : (kind : Kind) (c x : ℕ) (y : Option Moment) (borne : Bool)
+    → EndsTold kind y → DoneBy c (moment.Stamp x) y → borne ≡ false → due_kind kind x y c borne ≡ true
 kind_due N c x y borne told d un = not_from_false borne un
 kind_due B c x y borne told d un = let low = d.1 in grind (arith, nat_tests)
 kind_due E c x y borne told d un = ended_past c x y d told
@@ -120,7 +118,7 @@ module _ {K R : Type 0} where
 
 module _ {K R : Type 0} (number : K → ℕ) (σ : Store K R) (T : History R) (w : Whole number σ T) (rest : Resting σ) where
   pub horizon_clock : horizon_of σ ≡ σ.clock
-  horizon_clock = ap (λ o. or_clock o σ.clock) (no_times σ.sessions rest.shut)
+  horizon_clock = ap (λ o. unwrap_or o σ.clock) (no_times σ.sessions rest.shut)
 
   -- no mark is left, and no stamp is above the clock
   unmarked : (s : ℕ) → has_marks σ s ≡ false
@@ -139,7 +137,7 @@ module _ {K R : Type 0} (number : K → ℕ) (σ : Store K R) (T : History R) (w
       (all_for_each (λ s h. hot_marked s h ≡ false) σ.hot (λ s. none_all _ σ.hot (or_parts _ _ (unmarked s)).0))
       (of_own_key (λ h. number h.key) _ σ.hot (λ k. (or_parts _ _ (no_stamp_above k)).0))
 
-  notices_done : All (λ n. DoneBy σ.clock (b.Stamp n.begin) n.end) σ.memo
+  notices_done : All (λ n. DoneBy σ.clock (moment.Stamp n.begin) n.end) σ.memo
   notices_done = all_both _ _ σ.memo
       (all_for_each (λ s n. notice_marked s n ≡ false) σ.memo (λ s. none_all _ σ.memo (or_parts _ _ (unmarked s)).1))
       (of_own_key (λ n. number n.key) _ σ.memo (λ k. (or_parts _ _ (no_stamp_above k)).1))

@@ -1,13 +1,11 @@
 -- With no session open and no row on the move, sweeps empty the memo and a collect leaves the single table's rows.
-use Rattle.std.proofs.Common.{◌≡◌, ℕ, zero, suc, ◌*◌, ◌≤◌, Bool, true, false, not, ◌&&◌, eqb, List, [], ◌∷◌, ◌++◌, length, replicate, sym, refl, ap, ◌∙◌, subst, arith, length-append}
+use Rattle.std.proofs.Common.{◌≡◌, ℕ, zero, suc, ◌*◌, ◌≤◌, Bool, true, false, not, ◌&&◌, eqb, List, [], ◌∷◌, ◌++◌, length, replicate, sym, refl, ap, ◌∙◌, subst, arith, length-append, None, Some, Option}
 use Rattle.std.specs.List.{AllByRecursion as All}
 use Rattle.std.proofs.ByRecursion.{all_kept_by}
 use Rattle.std.proofs.lemmas.Bool.{both_ways, and_from, eq-eqb, le-leb, not-true, or_parts}
 use Rattle.std.proofs.lemmas.Bool.Decides.{nat_tests}
-use Rattle.rules.specs.declared.tables.Begin.{Begin}
-use Rattle.rules.specs.declared.tables.Begin.TheVariants as b
-use Rattle.rules.specs.declared.tables.End.{End}
-use Rattle.rules.specs.declared.tables.End.TheVariants as e
+use Rattle.rules.specs.declared.times.Moment.{Moment}
+use Rattle.rules.specs.declared.times.Moment.TheVariants as moment
 use Rattle.rules.specs.declared.answers.Call.TheVariants as call
 use Rattle.cold.specs.Cold.{Entry}
 use Rattle.rules.specs.Moving.{unmoved, row_stays, collect_rule}
@@ -34,11 +32,11 @@ use Rattle.law.proofs.SweepsLeft.{Nearer, sweeps_left, sweeps_most, none_left, s
 use Rattle.law.proofs.Tables.{same_start, same_all}
 
 -- a version with neither a mark nor a stamp above c, and with no end at or below c, is shown at c
-shown_at : (c : ℕ) (x : Begin) (y : End) → DoneBy c x y → end_past y c ≡ false → (plain_begun c x && not (plain_ended c y)) ≡ true
-shown_at c (b.Stamp n) e.Open d stays = let low = d.1 in grind (arith, nat_tests)
-shown_at c (b.Stamp n) (e.Stamp m) d stays = let low = d.1 in grind (arith, nat_tests)
-shown_at c (b.Stamp n) (e.Mark m) d stays = absurd (both_ways (eqb m m) (d.0 m) (eq-eqb m m refl))
-shown_at c (b.Mark n) y d stays = absurd (both_ways (eqb n n) (or_parts _ _ (d.0 n)).0 (eq-eqb n n refl))
+shown_at : (c : ℕ) (x : Moment) (y : Option Moment) → DoneBy c x y → end_past y c ≡ false → (plain_begun c x && not (plain_ended c y)) ≡ true
+shown_at c (moment.Stamp n) None d stays = let low = d.1 in grind (arith, nat_tests)
+shown_at c (moment.Stamp n) (Some (moment.Stamp m)) d stays = let low = d.1 in grind (arith, nat_tests)
+shown_at c (moment.Stamp n) (Some (moment.Mark m)) d stays = absurd (both_ways (eqb m m) (d.0 m) (eq-eqb m m refl))
+shown_at c (moment.Mark n) y d stays = absurd (both_ways (eqb n n) (or_parts _ _ (d.0 n)).0 (eq-eqb n n refl))
 
 module _ {R : Type 0} where
   -- the row of a version that is shown, where the test says so
@@ -69,7 +67,7 @@ module _ {K R : Type 0} (number : K → ℕ) where
     cold_shown = each_each _ (cold_version number σ.memo k) σ.cold ∙ each_same _ _ σ.cold (all_every _ σ.cold shows)
       where
         plain : Entry R → Version R
-        plain c = record { begin = b.Stamp 1; end = e.Open; row = c.row }
+        plain c = record { begin = moment.Stamp 1; end = None; row = c.row }
 
         shows : (c : Entry R) → rows shown_now (cold_version number σ.memo k c) ≡ one_if (eqb c.number k) c.row
         shows c =

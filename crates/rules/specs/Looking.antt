@@ -3,8 +3,7 @@
 use Rattle.std.specs.Prelude.{ℕ, ◌+◌, Bool, cond, ◌&&◌, ◌||◌, List, [], ◌∷◌, Some, None, Option, ◌==◌, nat_lt}
 use Rattle.slots.specs.Lists.{any, first}
 use Rattle.cold.specs.Cold.{Entry, own}
-use Rattle.rules.specs.declared.tables.Begin.TheVariants as b
-use Rattle.rules.specs.declared.tables.End.TheVariants as e
+use Rattle.rules.specs.declared.times.Moment.TheVariants as moment
 use Rattle.rules.specs.declared.tables.HotRow.{HotRow}
 use Rattle.rules.specs.declared.tables.Notice.{Notice}
 use Rattle.rules.specs.Times.{sees, foreign_begin, foreign_end, begin_above, end_above}
@@ -13,7 +12,7 @@ use Rattle.rules.specs.Stores.{Store}
 
 -- a cold entry without a notice begins at 1 and has an open end
 abbrev pub noted_sees : {K : Type 0} → Option (Notice K) → ℕ → ℕ → Bool
-noted_sees None s t = sees (b.Stamp 1) e.Open s t
+noted_sees None s t = sees (moment.Stamp 1) None s t
 noted_sees (Some n) s t = kind_sees n.kind n.begin n.end s t
 
 module _ {K : Type 0} (number : K → ℕ) where

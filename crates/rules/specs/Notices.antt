@@ -1,8 +1,7 @@
 -- What a notice gives its cold entry, what becomes of it at each event, and when it is due.
 use Rattle.std.specs.Prelude.{ℕ, Bool, true, false, not, Some, None, Option, nat_le}
-use Rattle.rules.specs.declared.tables.Begin.TheVariants as b
-use Rattle.rules.specs.declared.tables.End.{End}
-use Rattle.rules.specs.declared.tables.End.TheVariants as e
+use Rattle.rules.specs.declared.times.Moment.{Moment}
+use Rattle.rules.specs.declared.times.Moment.TheVariants as moment
 use Rattle.rules.specs.declared.tables.Kind.{Kind}
 use Rattle.rules.specs.declared.tables.Kind.TheVariants.{N, B, E, BE, X}
 use Rattle.rules.specs.declared.notices.NoticeEvent.{NoticeEvent}
@@ -10,11 +9,11 @@ use Rattle.rules.specs.declared.notices.NoticeEvent.TheVariants.{Settle, Ending,
 use Rattle.rules.specs.Times.{sees, end_past}
 
 -- does a session see a cold entry whose notice has this kind, begin and end
-abbrev pub kind_sees : Kind → ℕ → End → ℕ → ℕ → Bool
+abbrev pub kind_sees : Kind → ℕ → Option Moment → ℕ → ℕ → Bool
 kind_sees N x y s t = false
-kind_sees B x y s t = sees (b.Stamp x) e.Open s t
-kind_sees E x y s t = sees (b.Stamp 1) y s t
-kind_sees BE x y s t = sees (b.Stamp x) y s t
+kind_sees B x y s t = sees (moment.Stamp x) None s t
+kind_sees E x y s t = sees (moment.Stamp 1) y s t
+kind_sees BE x y s t = sees (moment.Stamp x) y s t
 kind_sees X x y s t = false
 
 -- what a notice of each kind becomes at each event; nothing: it is taken out
@@ -41,7 +40,7 @@ becomes X Abandon = Some X
 becomes X Empty = None
 
 -- is a notice due at horizon h; `borne`: a hot row bears its tag
-abbrev pub due_kind : Kind → ℕ → End → ℕ → Bool → Bool
+abbrev pub due_kind : Kind → ℕ → Option Moment → ℕ → Bool → Bool
 due_kind N x y h borne = not borne
 due_kind B x y h borne = nat_le x h
 due_kind E x y h borne = end_past y h

@@ -1,9 +1,8 @@
 -- The seller calls, one definition each: from the store and the call's inputs to the answer and the store after.
 -- Causes of refusal stand in the order in which they are tried.
-use Rattle.std.specs.Prelude.{ℕ, ◌+◌, Bool, true, false, cond, not, ◌&&◌, ◌||◌, List, [], ◌++◌, map, is_some, Some, None, Option, ◌==◌, nat_le, nat_lt}
+use Rattle.std.specs.Prelude.{ℕ, ◌+◌, Bool, true, false, cond, not, ◌&&◌, ◌||◌, List, [], ◌++◌, map, is_some, Some, None, Option, ◌==◌, nat_le, nat_lt, unwrap_or}
 use Rattle.slots.specs.Lists.{any, at_first, each, kept, one}
-use Rattle.rules.specs.declared.tables.Begin.TheVariants as b
-use Rattle.rules.specs.declared.tables.End.TheVariants as e
+use Rattle.rules.specs.declared.times.Moment.TheVariants as moment
 use Rattle.rules.specs.declared.tables.MoveMark.TheVariants.{Unmoved}
 use Rattle.rules.specs.declared.tables.HotRow.{HotRow}
 use Rattle.rules.specs.declared.tables.Kind.{Kind}
@@ -65,20 +64,19 @@ module _ {K R : Type 0} (number : K → ℕ) where
 module _ {K R : Type 0} where
   -- a hot row's move mark is cleared
   abbrev pub end_row : ℕ → HotRow K R → HotRow K R
-  end_row s h = record { key = h.key; row = h.row; begin = h.begin; end = e.Mark s; mark = Unmoved }
+  end_row s h = record { key = h.key; row = h.row; begin = h.begin; end = Some (moment.Mark s); mark = Unmoved }
 
 -- the kind after an event that takes no notice out
 abbrev pub kind_or : Kind → Option Kind → Kind
-kind_or kind None = kind
-kind_or kind (Some new) = new
+kind_or kind after = unwrap_or after kind
 
 module _ {K : Type 0} where
   abbrev pub end_notice : ℕ → Notice K → Notice K
   end_notice s n =
-      record { key = n.key; tag = n.tag; kind = kind_or n.kind (becomes n.kind Ending); begin = n.begin; end = e.Mark s }
+      record { key = n.key; tag = n.tag; kind = kind_or n.kind (becomes n.kind Ending); begin = n.begin; end = Some (moment.Mark s) }
 
   abbrev pub new_end : ℕ → K → ℕ → Notice K
-  new_end s key tag = record { key = key; tag = tag; kind = E; begin = 1; end = e.Mark s }
+  new_end s key tag = record { key = key; tag = tag; kind = E; begin = 1; end = Some (moment.Mark s) }
 
 module _ {K : Type 0} (number : K → ℕ) where
   -- a cold entry's notice is turned, or an E notice is added
@@ -111,7 +109,7 @@ module _ {K R : Type 0} where
   with_row row h = record { key = h.key; row = row; begin = h.begin; end = h.end; mark = h.mark }
 
   abbrev pub new_row : ℕ → K → R → HotRow K R
-  new_row s key row = record { key = key; row = row; begin = b.Mark s; end = e.Open; mark = Unmoved }
+  new_row s key row = record { key = key; row = row; begin = moment.Mark s; end = None; mark = Unmoved }
 
   abbrev pub push_hot : Store K R → HotRow K R → Store K R
   push_hot σ h = with_hot σ (σ.hot ++ one h)
@@ -180,7 +178,7 @@ module _ {K : Type 0} where
   -- a notice whose end is undone: taken out, or of another kind with an open end
   abbrev pub unended : Notice K → Option Kind → List (Notice K)
   unended n None = []
-  unended n (Some kind) = one (record { key = n.key; tag = n.tag; kind = kind; begin = n.begin; end = e.Open })
+  unended n (Some kind) = one (record { key = n.key; tag = n.tag; kind = kind; begin = n.begin; end = None })
 
   abbrev pub undo_notice : ℕ → Notice K → List (Notice K)
   undo_notice s n = cond (notice_marked s n) (unended n (becomes n.kind Abandon)) (one n)

@@ -18,6 +18,10 @@ pub record Lengths : Type 0 where
 abbrev pub same_lengths : Lengths → Lengths → Bool
 same_lengths a b = a.hots == b.hots && (a.memos == b.memos && a.lines == b.lines)
 
+-- the lengths of the opening
+abbrev pub lengths_of : Sheet → Lengths
+lengths_of sheet = record { hots = sheet.hot_length; memos = sheet.memo_length; lines = sheet.ledger_length }
+
 -- the lengths of lent tables
 abbrev pub lent : {X Y Z : Type 0} → List X → List Y → List Z → Lengths
 lent hot memo ledger = record { hots = length hot; memos = length memo; lines = length ledger }
@@ -40,7 +44,7 @@ pub record Store (K R : Type 0) : Type 0 where
 abbrev pub store : {K R : Type 0}
     → Sheet → List (HotRow K R) → List (Notice K) → List (Line K) → List (Entry R) → ℕ → (ℕ → Bool) → Store K R
 store sheet hot memo ledger cold limit admits = record {
-  lengths = record { hots = sheet.hot_length; memos = sheet.memo_length; lines = sheet.ledger_length };
+  lengths = lengths_of sheet;
   sessions = sheet.sessions;
   clock = sheet.clock;
   last_tag = sheet.last_tag;

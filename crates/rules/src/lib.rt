@@ -3,8 +3,10 @@
 pub mod answers;
 pub mod cases;
 pub mod horizon;
+pub mod lent;
 pub mod notices;
 pub mod refusals;
+pub mod sessions;
 pub mod sheet;
 pub mod tables;
 pub mod times;

@@ -4,17 +4,19 @@ ghost use Rattle.rules.specs.Refusals.{number_of, layer_of, side_layer, cold_lay
 use crate::answers::{Layer, Refusal, Side};
 use cold::store::ColdRefusal;
 
-// The layer of a caller's side.
-pub fn layer_of_side(side: Side) -> Layer
-    ensures { result ≡ side_layer side }
-{
-    match side {
-        Side::Seller => Layer::Seller,
-        Side::Mover => Layer::Move,
+impl Side {
+    // The layer of the caller's side.
+    pub fn layer(self) -> Layer
+        ensures { result ≡ side_layer self }
+    {
+        match self {
+            Side::Seller => Layer::Seller,
+            Side::Mover => Layer::Move,
+        }
     }
 }
 
-// The layer of a cold store's refusal, inside a copy's.
+// The layer of a cold store's refusal, inside a copy's. That type is another crate's, which can be given no method here.
 pub fn layer_inside(refusal: ColdRefusal) -> Layer
     ensures { result ≡ cold_layer refusal }
 {
@@ -54,7 +56,7 @@ impl Refusal {
         ensures { result ≡ layer_of self }
     {
         match self {
-            Refusal::OutOfRange(side) | Refusal::MemoFull(side) => layer_of_side(side),
+            Refusal::OutOfRange(side) | Refusal::MemoFull(side) => side.layer(),
             Refusal::NoRow
             | Refusal::AlreadyMarked
             | Refusal::TagsAtEnd

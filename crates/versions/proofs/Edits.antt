@@ -3,10 +3,8 @@
 use Rattle.std.proofs.Common.{◌≡◌, ℕ, ◌≤◌, Bool, true, false, cond, ◌&&◌, ◌||◌, List, [], ◌∷◌, ◌++◌, is_some, Some, None, Option, sym, refl, ap, ◌∙◌, append-nil, arith}
 use Rattle.std.proofs.lemmas.Bool.{eqb-true, eq-eqb, ne_eqb}
 use Rattle.std.proofs.lemmas.Bool.Decides.{nat_tests}
-use Rattle.rules.specs.declared.tables.Begin.{Begin}
-use Rattle.rules.specs.declared.tables.End.{End}
-use Rattle.rules.specs.declared.tables.Begin.TheVariants as b
-use Rattle.rules.specs.declared.tables.End.TheVariants as e
+use Rattle.rules.specs.declared.times.Moment.{Moment}
+use Rattle.rules.specs.declared.times.Moment.TheVariants as moment
 use Rattle.rules.specs.Times.{sees, begun, begin_marked, foreign_begin, foreign_end}
 use Rattle.slots.specs.Lists.{any, one, each, one_if, list_of}
 use Rattle.slots.proofs.Folds.{any_append, all_join}
@@ -47,19 +45,19 @@ module _ (R : Type 0) where
   dropping_puts_none false = refl
 
 -- a version that s sees, with nothing foreign and not begun by s, is stamped and open
-seen_is : (s t : ℕ) (x : Begin) (y : End) → (foreign_begin x s t || foreign_end y s t) ≡ false → begin_marked x s ≡ false
-    → sees x y s t ≡ true → (n : ℕ) × (x ≡ b.Stamp n) × (y ≡ e.Open)
-seen_is s t (b.Stamp n) e.Open calm other seen = (n, refl, refl)
-seen_is s t (b.Stamp n) (e.Stamp m) calm other seen = absurd (let z : ◌≡◌ {A = ℕ} 0 1 = grind (arith, nat_tests) in omega arith)
-seen_is s t (b.Stamp n) (e.Mark m) calm other seen = absurd (let z : ◌≡◌ {A = ℕ} 0 1 = grind (arith, nat_tests) in omega arith)
-seen_is s t (b.Mark n) y calm other seen = absurd (let z : ◌≡◌ {A = ℕ} 0 1 = grind (arith, nat_tests) in omega arith)
+seen_is : (s t : ℕ) (x : Moment) (y : Option Moment) → (foreign_begin x s t || foreign_end y s t) ≡ false → begin_marked x s ≡ false
+    → sees x y s t ≡ true → (n : ℕ) × (x ≡ moment.Stamp n) × (y ≡ None)
+seen_is s t (moment.Stamp n) None calm other seen = (n, refl, refl)
+seen_is s t (moment.Stamp n) (Some (moment.Stamp m)) calm other seen = absurd (let z : ◌≡◌ {A = ℕ} 0 1 = grind (arith, nat_tests) in omega arith)
+seen_is s t (moment.Stamp n) (Some (moment.Mark m)) calm other seen = absurd (let z : ◌≡◌ {A = ℕ} 0 1 = grind (arith, nat_tests) in omega arith)
+seen_is s t (moment.Mark n) y calm other seen = absurd (let z : ◌≡◌ {A = ℕ} 0 1 = grind (arith, nat_tests) in omega arith)
 
 -- a version that s began has its mark and is open
-own_is : (s : ℕ) (x : Begin) (y : End) → Shaped x y → begin_marked x s ≡ true → (x ≡ b.Mark s) × (y ≡ e.Open)
-own_is s (b.Stamp n) y shaped own = absurd (let z : ◌≡◌ {A = ℕ} 0 1 = cc in omega arith)
-own_is s (b.Mark n) e.Open shaped own = (ap b.Mark (eqb-true n s own), refl)
-own_is s (b.Mark n) (e.Stamp m) shaped own = elim shaped [ ]
-own_is s (b.Mark n) (e.Mark m) shaped own = elim shaped [ ]
+own_is : (s : ℕ) (x : Moment) (y : Option Moment) → Shaped x y → begin_marked x s ≡ true → (x ≡ moment.Mark s) × (y ≡ None)
+own_is s (moment.Stamp n) y shaped own = absurd (let z : ◌≡◌ {A = ℕ} 0 1 = cc in omega arith)
+own_is s (moment.Mark n) None shaped own = (ap moment.Mark (eqb-true n s own), refl)
+own_is s (moment.Mark n) (Some (moment.Stamp m)) shaped own = elim shaped [ ]
+own_is s (moment.Mark n) (Some (moment.Mark m)) shaped own = elim shaped [ ]
 
 -- a key of which the session sees nothing
 module _ {R : Type 0} {h c : ℕ} {cs : List (Commit R)} {turn : ℕ → Option (Turn R)} {k s : ℕ} {V : List (Version R)}
@@ -85,10 +83,10 @@ module _ {R : Type 0} {h c : ℕ} {cs : List (Commit R)} {turn : ℕ → Option 
 
   -- a put where nothing is seen: a version is added
   pub rel_add : {next : ℕ → Option (Turn R)} (q : R) → Wrote turn next s k (Some (Some q)) → rows (v_begun s) V ≡ []
-      → Rel h cs next k (V ++ one (record { begin = b.Mark s; end = e.Open; row = q }))
+      → Rel h cs next k (V ++ one (record { begin = moment.Mark s; end = None; row = q }))
   unfolding each any
   rel_add q wrote unbegun =
-      let new : List (Version R) = one (record { begin = b.Mark s; end = e.Open; row = q }) in
+      let new : List (Version R) = one (record { begin = moment.Mark s; end = None; row = q }) in
       rel_wrote ready wrote (record {
         plain = λ t. rows_append (v_plain t) V new ∙ append-nil _;
         mine = λ x p t l.
@@ -107,7 +105,7 @@ module _ {R : Type 0} {h c : ℕ} {cs : List (Commit R)} {turn : ℕ → Option 
     (a : List (Version R)) (v : Version R) (z : List (Version R)) (ready : Ready h c cs turn k s (a ++ (v ∷ z))) where
   -- a version that the session began, for which it put the row p
   module _ (p : R) (own : v_begun s v ≡ true) (put : writes_of turn s k ≡ Some (Some p)) where
-    is_own : (v.begin ≡ b.Mark s) × (v.end ≡ e.Open)
+    is_own : (v.begin ≡ moment.Mark s) × (v.end ≡ None)
     is_own = own_is s v.begin v.end (all_at a v z VShaped ready.rel.shaped) own
 
     sees_own : (t : ℕ) → v_sees s t v ≡ true
@@ -159,7 +157,7 @@ module _ {R : Type 0} {h c : ℕ} {cs : List (Commit R)} {turn : ℕ → Option 
     calm : CalmFor s (read_of turn s) v
     calm = all_at a v z (CalmFor s (read_of turn s)) ready.calm
 
-    is_stamped : (n : ℕ) × (v.begin ≡ b.Stamp n) × (v.end ≡ e.Open)
+    is_stamped : (n : ℕ) × (v.begin ≡ moment.Stamp n) × (v.end ≡ None)
     is_stamped = seen_is s (read_of turn s) v.begin v.end calm unmarked.0 seen
 
     -- the history shows a row there
@@ -181,9 +179,9 @@ module _ {R : Type 0} {h c : ℕ} {cs : List (Commit R)} {turn : ℕ → Option 
 
     -- it gets the session's mark as its end
     pub rel_end : {next : ℕ → Option (Turn R)} → Wrote turn next s k (Some None)
-        → Rel h cs next k (a ++ (record { begin = v.begin; end = e.Mark s; row = v.row } ∷ z))
+        → Rel h cs next k (a ++ (record { begin = v.begin; end = Some (moment.Mark s); row = v.row } ∷ z))
     rel_end wrote =
-        let new : Version R = record { begin = v.begin; end = e.Mark s; row = v.row } in
+        let new : Version R = record { begin = v.begin; end = Some (moment.Mark s); row = v.row } in
         rel_wrote ready wrote (record {
           plain = λ t. rows_with a v new z (v_plain t) (rw is_stamped.2);
           mine = λ x w t l.

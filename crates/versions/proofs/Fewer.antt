@@ -1,13 +1,11 @@
 -- What no reader from the horizon on can tell apart: a version that ended by then may go, and a begin up to then may sink.
 -- Collect and the sweeps change the versions of a key in these two ways only.
-use Rattle.std.proofs.Common.{◌≡◌, ℕ, ◌≤◌, Bool, true, false, ◌||◌, List, [], ◌∷◌, ◌++◌, Option, refl, ap, ◌∙◌, arith}
+use Rattle.std.proofs.Common.{◌≡◌, ℕ, ◌≤◌, Bool, true, false, ◌||◌, List, [], ◌∷◌, ◌++◌, Option, refl, ap, ◌∙◌, arith, None, Some}
 use Rattle.std.specs.List.{AllByRecursion as All}
 use Rattle.std.proofs.lemmas.Bool.{leb-true}
 use Rattle.std.proofs.lemmas.Bool.Decides.{nat_tests}
-use Rattle.rules.specs.declared.tables.Begin.{Begin}
-use Rattle.rules.specs.declared.tables.End.{End}
-use Rattle.rules.specs.declared.tables.Begin.TheVariants as b
-use Rattle.rules.specs.declared.tables.End.TheVariants as e
+use Rattle.rules.specs.declared.times.Moment.{Moment}
+use Rattle.rules.specs.declared.times.Moment.TheVariants as moment
 use Rattle.rules.specs.Times.{end_past}
 use Rattle.slots.specs.Lists.{any, one, each, one_if}
 use Rattle.versions.specs.History.{Commit, Turn}
@@ -15,10 +13,10 @@ use Rattle.versions.proofs.Versions.{Version, Shaped, v_plain, v_sees, v_begun, 
 
 -- a version that began at n and ended at m, and one that began at n and has not ended
 abbrev pub from_to : {R : Type 0} → ℕ → ℕ → R → Version R
-from_to n m r = record { begin = b.Stamp n; end = e.Stamp m; row = r }
+from_to n m r = record { begin = moment.Stamp n; end = Some (moment.Stamp m); row = r }
 
 abbrev pub from_on : {R : Type 0} → ℕ → R → Version R
-from_on n r = record { begin = b.Stamp n; end = e.Open; row = r }
+from_on n r = record { begin = moment.Stamp n; end = None; row = r }
 
 -- the second list is the first with versions gone or sunk
 pub data Fewer {R : Type 0} (h : ℕ) : List (Version R) → List (Version R) → Type 0 where
@@ -39,12 +37,12 @@ module _ {R : Type 0} (h : ℕ) where
   fewer_append (sunk n m r l u f) g = sunk n m r l u (fewer_append f g)
 
   -- a version whose end is past
-  pub fewer_past : (x : Begin) (y : End) (r : R) → Shaped x y → end_past y h ≡ true
+  pub fewer_past : (x : Moment) (y : Option Moment) (r : R) → Shaped x y → end_past y h ≡ true
       → Fewer h (one (record { begin = x; end = y; row = r })) []
-  fewer_past x e.Open r shaped past = absurd (let z : ◌≡◌ {A = ℕ} 0 1 = cc in omega arith)
-  fewer_past (b.Stamp n) (e.Stamp m) r shaped past = gone n m r shaped (leb-true m h past) none
-  fewer_past (b.Mark s) (e.Stamp m) r shaped past = elim shaped [ ]
-  fewer_past x (e.Mark m) r shaped past = absurd (let z : ◌≡◌ {A = ℕ} 0 1 = cc in omega arith)
+  fewer_past x None r shaped past = absurd (let z : ◌≡◌ {A = ℕ} 0 1 = cc in omega arith)
+  fewer_past (moment.Stamp n) (Some (moment.Stamp m)) r shaped past = gone n m r shaped (leb-true m h past) none
+  fewer_past (moment.Mark s) (Some (moment.Stamp m)) r shaped past = elim shaped [ ]
+  fewer_past x (Some (moment.Mark m)) r shaped past = absurd (let z : ◌≡◌ {A = ℕ} 0 1 = cc in omega arith)
 
   -- a test that tells neither
   record Blind (p : Version R → Bool) : Type 0 where

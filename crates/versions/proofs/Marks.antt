@@ -4,8 +4,7 @@ use Rattle.std.proofs.Common.{◌≡◌, ℕ, ◌≤◌, Bool, true, false, ◌&
 use Rattle.std.specs.List.{AllByRecursion as All}
 use Rattle.std.proofs.lemmas.Bool.{cases_eq, le-ltb}
 use Rattle.std.proofs.lemmas.Bool.Decides.{nat_tests}
-use Rattle.rules.specs.declared.tables.Begin.{Begin}
-use Rattle.rules.specs.declared.tables.End.{End}
+use Rattle.rules.specs.declared.times.Moment.{Moment}
 use Rattle.rules.specs.Times.{begin_marked, end_marked}
 use Rattle.slots.specs.Lists.{any, list_of}
 use Rattle.slots.proofs.Folds.{none_all, all_both}
@@ -14,10 +13,10 @@ use Rattle.versions.proofs.Versions.{Version, v_begun, v_ended, v_above, put_of,
 use Rattle.versions.proofs.Rows.{none_unless, any_weaker, none_rows, rows_any}
 
 -- a begin, and an end, with no mark but that of s
-abbrev pub OnlyBegin : ℕ → Begin → Type 0
+abbrev pub OnlyBegin : ℕ → Moment → Type 0
 OnlyBegin s x = (m : ℕ) → (m ≡ s → ⊥) → begin_marked x m ≡ false
 
-abbrev pub OnlyEnd : ℕ → End → Type 0
+abbrev pub OnlyEnd : ℕ → Option Moment → Type 0
 OnlyEnd s y = (m : ℕ) → (m ≡ s → ⊥) → end_marked y m ≡ false
 
 module _ {R : Type 0} where

@@ -1,13 +1,11 @@
 -- What a session sees of a version that has no mark of its own, and of one with nothing foreign to it.
 -- s is the session, t and u are read times.
-use Rattle.std.proofs.Common.{◌≡◌, ℕ, ◌≤◌, Bool, false, ◌||◌, List, refl, arith}
+use Rattle.std.proofs.Common.{◌≡◌, ℕ, ◌≤◌, Bool, false, ◌||◌, List, refl, arith, None, Some, Option}
 use Rattle.std.specs.List.{AllByRecursion as All}
 use Rattle.std.proofs.lemmas.Bool.{or_parts}
 use Rattle.std.proofs.lemmas.Bool.Decides.{nat_tests}
-use Rattle.rules.specs.declared.tables.Begin.{Begin}
-use Rattle.rules.specs.declared.tables.End.{End}
-use Rattle.rules.specs.declared.tables.Begin.TheVariants as b
-use Rattle.rules.specs.declared.tables.End.TheVariants as e
+use Rattle.rules.specs.declared.times.Moment.{Moment}
+use Rattle.rules.specs.declared.times.Moment.TheVariants as moment
 use Rattle.rules.specs.Times.{begun, ended, begin_marked, end_marked, begin_above, end_above, foreign_begin, foreign_end}
 use Rattle.slots.proofs.Folds.{all_then}
 use Rattle.versions.proofs.Versions.{Version, plain_begun, plain_ended, v_plain, v_sees, v_above, rows}
@@ -25,53 +23,53 @@ module _ {R : Type 0} where
 -- begins and ends
 module _ (s t : ℕ) where
   -- without a mark of s they are as for any reader
-  begun_plain : (x : Begin) → begin_marked x s ≡ false → begun x s t ≡ plain_begun t x
-  begun_plain (b.Stamp n) none = refl
-  begun_plain (b.Mark n) none = none
+  begun_plain : (x : Moment) → begin_marked x s ≡ false → begun x s t ≡ plain_begun t x
+  begun_plain (moment.Stamp n) none = refl
+  begun_plain (moment.Mark n) none = none
 
-  ended_plain : (y : End) → end_marked y s ≡ false → ended y s t ≡ plain_ended t y
-  ended_plain e.Open none = refl
-  ended_plain (e.Stamp n) none = refl
-  ended_plain (e.Mark n) none = none
+  ended_plain : (y : Option Moment) → end_marked y s ≡ false → ended y s t ≡ plain_ended t y
+  ended_plain None none = refl
+  ended_plain (Some (moment.Stamp n)) none = refl
+  ended_plain (Some (moment.Mark n)) none = none
 
   -- with nothing foreign they are at a later time as they were
-  begun_later : (u : ℕ) → t ≤ u → (x : Begin) → foreign_begin x s t ≡ false → begun x s u ≡ begun x s t
-  begun_later u le (b.Stamp n) calm = grind (arith, nat_tests)
-  begun_later u le (b.Mark n) calm = refl
+  begun_later : (u : ℕ) → t ≤ u → (x : Moment) → foreign_begin x s t ≡ false → begun x s u ≡ begun x s t
+  begun_later u le (moment.Stamp n) calm = grind (arith, nat_tests)
+  begun_later u le (moment.Mark n) calm = refl
 
-  ended_later : (u : ℕ) → t ≤ u → (y : End) → foreign_end y s t ≡ false → ended y s u ≡ ended y s t
-  ended_later u le e.Open calm = refl
-  ended_later u le (e.Stamp n) calm = grind (arith, nat_tests)
-  ended_later u le (e.Mark n) calm = refl
+  ended_later : (u : ℕ) → t ≤ u → (y : Option Moment) → foreign_end y s t ≡ false → ended y s u ≡ ended y s t
+  ended_later u le None calm = refl
+  ended_later u le (Some (moment.Stamp n)) calm = grind (arith, nat_tests)
+  ended_later u le (Some (moment.Mark n)) calm = refl
 
   -- nothing foreign: no other mark, and no stamp above t
-  begin_own : (x : Begin) → foreign_begin x s t ≡ false → OnlyBegin s x
-  begin_own (b.Stamp n) calm m ne = refl
-  begin_own (b.Mark n) calm m ne = grind (arith, nat_tests)
+  begin_own : (x : Moment) → foreign_begin x s t ≡ false → OnlyBegin s x
+  begin_own (moment.Stamp n) calm m ne = refl
+  begin_own (moment.Mark n) calm m ne = grind (arith, nat_tests)
 
-  end_own : (y : End) → foreign_end y s t ≡ false → OnlyEnd s y
-  end_own e.Open calm m ne = refl
-  end_own (e.Stamp n) calm m ne = refl
-  end_own (e.Mark n) calm m ne = grind (arith, nat_tests)
+  end_own : (y : Option Moment) → foreign_end y s t ≡ false → OnlyEnd s y
+  end_own None calm m ne = refl
+  end_own (Some (moment.Stamp n)) calm m ne = refl
+  end_own (Some (moment.Mark n)) calm m ne = grind (arith, nat_tests)
 
-  begin_low : (x : Begin) → foreign_begin x s t ≡ false → begin_above x t ≡ false
-  begin_low (b.Stamp n) calm = calm
-  begin_low (b.Mark n) calm = refl
+  begin_low : (x : Moment) → foreign_begin x s t ≡ false → begin_above x t ≡ false
+  begin_low (moment.Stamp n) calm = calm
+  begin_low (moment.Mark n) calm = refl
 
-  end_low : (y : End) → foreign_end y s t ≡ false → end_above y t ≡ false
-  end_low e.Open calm = refl
-  end_low (e.Stamp n) calm = calm
-  end_low (e.Mark n) calm = refl
+  end_low : (y : Option Moment) → foreign_end y s t ≡ false → end_above y t ≡ false
+  end_low None calm = refl
+  end_low (Some (moment.Stamp n)) calm = calm
+  end_low (Some (moment.Mark n)) calm = refl
 
   -- and the other way round
-  begin_calm : (x : Begin) → OnlyBegin s x → begin_above x t ≡ false → foreign_begin x s t ≡ false
-  begin_calm (b.Stamp n) only low = low
-  begin_calm (b.Mark n) only low = let own = own_mark n s only in grind (arith, nat_tests)
+  begin_calm : (x : Moment) → OnlyBegin s x → begin_above x t ≡ false → foreign_begin x s t ≡ false
+  begin_calm (moment.Stamp n) only low = low
+  begin_calm (moment.Mark n) only low = let own = own_mark n s only in grind (arith, nat_tests)
 
-  end_calm : (y : End) → OnlyEnd s y → end_above y t ≡ false → foreign_end y s t ≡ false
-  end_calm e.Open only low = refl
-  end_calm (e.Stamp n) only low = low
-  end_calm (e.Mark n) only low = let own = own_mark n s only in grind (arith, nat_tests)
+  end_calm : (y : Option Moment) → OnlyEnd s y → end_above y t ≡ false → foreign_end y s t ≡ false
+  end_calm None only low = refl
+  end_calm (Some (moment.Stamp n)) only low = low
+  end_calm (Some (moment.Mark n)) only low = let own = own_mark n s only in grind (arith, nat_tests)
 
 -- versions
 module _ {R : Type 0} (s t : ℕ) where

@@ -5,10 +5,8 @@ use Rattle.std.specs.List.{AllByRecursion as All}
 use Rattle.std.proofs.ByRecursion.{All-map}
 use Rattle.std.proofs.lemmas.Bool.{cases_Bool, cases_lt, le-leb, lt-leb, lt-ltb, le-ltb}
 use Rattle.std.proofs.lemmas.Bool.Decides.{nat_tests}
-use Rattle.rules.specs.declared.tables.Begin.{Begin}
-use Rattle.rules.specs.declared.tables.End.{End}
-use Rattle.rules.specs.declared.tables.Begin.TheVariants as b
-use Rattle.rules.specs.declared.tables.End.TheVariants as e
+use Rattle.rules.specs.declared.times.Moment.{Moment}
+use Rattle.rules.specs.declared.times.Moment.TheVariants as moment
 use Rattle.rules.specs.Times.{begun, ended, begin_marked, end_marked, begin_above, end_above, stamp_begin, stamp_end}
 use Rattle.slots.specs.Lists.{any, one_if, list_of}
 use Rattle.slots.proofs.Folds.{any_same, all_none, any_map, all_both, all_then, all_every, each_map}
@@ -24,76 +22,76 @@ use Rattle.versions.proofs.Closing.{rel_unwritten, closed_same, none_left, tidy_
 -- begins and ends, stamped
 module _ (s c : ℕ) where
   -- a begin or an end that has no mark of s stays as it is
-  begin_kept : (x : Begin) → begin_marked x s ≡ false → stamp_begin s c x ≡ x
-  begin_kept (b.Stamp n) none = refl
-  begin_kept (b.Mark n) none = rw none
+  begin_kept : (x : Moment) → begin_marked x s ≡ false → stamp_begin s c x ≡ x
+  begin_kept (moment.Stamp n) none = refl
+  begin_kept (moment.Mark n) none = rw none
 
-  end_kept : (y : End) → end_marked y s ≡ false → stamp_end s c y ≡ y
-  end_kept e.Open none = refl
-  end_kept (e.Stamp n) none = refl
-  end_kept (e.Mark n) none = rw none
+  end_kept : (y : Option Moment) → end_marked y s ≡ false → stamp_end s c y ≡ y
+  end_kept None none = refl
+  end_kept (Some (moment.Stamp n)) none = refl
+  end_kept (Some (moment.Mark n)) none = rw none
 
   -- for a reader without marks before the stamp
-  begun_early : (t : ℕ) → t < c → (x : Begin) → plain_begun t (stamp_begin s c x) ≡ plain_begun t x
-  begun_early t lt (b.Stamp n) = refl
-  begun_early t lt (b.Mark n) = grind (arith, nat_tests)
+  begun_early : (t : ℕ) → t < c → (x : Moment) → plain_begun t (stamp_begin s c x) ≡ plain_begun t x
+  begun_early t lt (moment.Stamp n) = refl
+  begun_early t lt (moment.Mark n) = grind (arith, nat_tests)
 
-  ended_early : (t : ℕ) → t < c → (y : End) → plain_ended t (stamp_end s c y) ≡ plain_ended t y
-  ended_early t lt e.Open = refl
-  ended_early t lt (e.Stamp n) = refl
-  ended_early t lt (e.Mark n) = grind (arith, nat_tests)
+  ended_early : (t : ℕ) → t < c → (y : Option Moment) → plain_ended t (stamp_end s c y) ≡ plain_ended t y
+  ended_early t lt None = refl
+  ended_early t lt (Some (moment.Stamp n)) = refl
+  ended_early t lt (Some (moment.Mark n)) = grind (arith, nat_tests)
 
   -- and from it on, if there is no other session's mark
-  begun_late : (t : ℕ) → c ≤ t → (x : Begin) → OnlyBegin s x → plain_begun t (stamp_begin s c x) ≡ begun x s t
-  begun_late t le (b.Stamp n) only = refl
-  begun_late t le (b.Mark n) only = let own = own_mark n s only in grind (arith, nat_tests)
+  begun_late : (t : ℕ) → c ≤ t → (x : Moment) → OnlyBegin s x → plain_begun t (stamp_begin s c x) ≡ begun x s t
+  begun_late t le (moment.Stamp n) only = refl
+  begun_late t le (moment.Mark n) only = let own = own_mark n s only in grind (arith, nat_tests)
 
-  ended_late : (t : ℕ) → c ≤ t → (y : End) → OnlyEnd s y → plain_ended t (stamp_end s c y) ≡ ended y s t
-  ended_late t le e.Open only = refl
-  ended_late t le (e.Stamp n) only = refl
-  ended_late t le (e.Mark n) only = let own = own_mark n s only in grind (arith, nat_tests)
+  ended_late : (t : ℕ) → c ≤ t → (y : Option Moment) → OnlyEnd s y → plain_ended t (stamp_end s c y) ≡ ended y s t
+  ended_late t le None only = refl
+  ended_late t le (Some (moment.Stamp n)) only = refl
+  ended_late t le (Some (moment.Mark n)) only = let own = own_mark n s only in grind (arith, nat_tests)
 
   -- no mark is left then
-  begin_unmarked : (x : Begin) → OnlyBegin s x → (m : ℕ) → begin_marked (stamp_begin s c x) m ≡ false
-  begin_unmarked (b.Stamp n) only m = refl
-  begin_unmarked (b.Mark n) only m = let own = own_mark n s only in grind (arith, nat_tests)
+  begin_unmarked : (x : Moment) → OnlyBegin s x → (m : ℕ) → begin_marked (stamp_begin s c x) m ≡ false
+  begin_unmarked (moment.Stamp n) only m = refl
+  begin_unmarked (moment.Mark n) only m = let own = own_mark n s only in grind (arith, nat_tests)
 
-  end_unmarked : (y : End) → OnlyEnd s y → (m : ℕ) → end_marked (stamp_end s c y) m ≡ false
-  end_unmarked e.Open only m = refl
-  end_unmarked (e.Stamp n) only m = refl
-  end_unmarked (e.Mark n) only m = let own = own_mark n s only in grind (arith, nat_tests)
+  end_unmarked : (y : Option Moment) → OnlyEnd s y → (m : ℕ) → end_marked (stamp_end s c y) m ≡ false
+  end_unmarked None only m = refl
+  end_unmarked (Some (moment.Stamp n)) only m = refl
+  end_unmarked (Some (moment.Mark n)) only m = let own = own_mark n s only in grind (arith, nat_tests)
 
   -- a mark becomes a stamp above t before the stamp, and from it on no stamp is new above t
-  begin_above_early : (t : ℕ) → t < c → (x : Begin) → begin_marked x s ≡ true → begin_above (stamp_begin s c x) t ≡ true
-  begin_above_early t lt (b.Stamp n) its = grind (arith, nat_tests)
-  begin_above_early t lt (b.Mark n) its = grind (arith, nat_tests)
+  begin_above_early : (t : ℕ) → t < c → (x : Moment) → begin_marked x s ≡ true → begin_above (stamp_begin s c x) t ≡ true
+  begin_above_early t lt (moment.Stamp n) its = grind (arith, nat_tests)
+  begin_above_early t lt (moment.Mark n) its = grind (arith, nat_tests)
 
-  end_above_early : (t : ℕ) → t < c → (y : End) → end_marked y s ≡ true → end_above (stamp_end s c y) t ≡ true
-  end_above_early t lt e.Open its = grind (arith, nat_tests)
-  end_above_early t lt (e.Stamp n) its = grind (arith, nat_tests)
-  end_above_early t lt (e.Mark n) its = grind (arith, nat_tests)
+  end_above_early : (t : ℕ) → t < c → (y : Option Moment) → end_marked y s ≡ true → end_above (stamp_end s c y) t ≡ true
+  end_above_early t lt None its = grind (arith, nat_tests)
+  end_above_early t lt (Some (moment.Stamp n)) its = grind (arith, nat_tests)
+  end_above_early t lt (Some (moment.Mark n)) its = grind (arith, nat_tests)
 
-  begin_above_late : (t : ℕ) → c ≤ t → (x : Begin) → begin_above (stamp_begin s c x) t ≡ begin_above x t
-  begin_above_late t le (b.Stamp n) = refl
-  begin_above_late t le (b.Mark n) = grind (arith, nat_tests)
+  begin_above_late : (t : ℕ) → c ≤ t → (x : Moment) → begin_above (stamp_begin s c x) t ≡ begin_above x t
+  begin_above_late t le (moment.Stamp n) = refl
+  begin_above_late t le (moment.Mark n) = grind (arith, nat_tests)
 
-  end_above_late : (t : ℕ) → c ≤ t → (y : End) → end_above (stamp_end s c y) t ≡ end_above y t
-  end_above_late t le e.Open = refl
-  end_above_late t le (e.Stamp n) = refl
-  end_above_late t le (e.Mark n) = grind (arith, nat_tests)
+  end_above_late : (t : ℕ) → c ≤ t → (y : Option Moment) → end_above (stamp_end s c y) t ≡ end_above y t
+  end_above_late t le None = refl
+  end_above_late t le (Some (moment.Stamp n)) = refl
+  end_above_late t le (Some (moment.Mark n)) = grind (arith, nat_tests)
 
   -- the shape is kept, since no begin is above the clock d
-  shaped_stamped : (d : ℕ) → d ≤ c → (x : Begin) (y : End)
+  shaped_stamped : (d : ℕ) → d ≤ c → (x : Moment) (y : Option Moment)
       → Shaped x y → (begin_above x d || end_above y d) ≡ false → Shaped (stamp_begin s c x) (stamp_end s c y)
-  shaped_stamped d le (b.Stamp n) e.Open shaped low = tt
-  shaped_stamped d le (b.Stamp n) (e.Stamp m) shaped low = shaped
-  shaped_stamped d le (b.Stamp n) (e.Mark m) shaped low = elim (cases_Bool (eqb m s)) [
+  shaped_stamped d le (moment.Stamp n) None shaped low = tt
+  shaped_stamped d le (moment.Stamp n) (Some (moment.Stamp m)) shaped low = shaped
+  shaped_stamped d le (moment.Stamp n) (Some (moment.Mark m)) shaped low = elim (cases_Bool (eqb m s)) [
     | inl its ↦ rw its (grind (arith, nat_tests))
     | inr other ↦ rw other tt
   ]
-  shaped_stamped d le (b.Mark n) e.Open shaped low = elim (cases_Bool (eqb n s)) [ inl its ↦ rw its tt | inr other ↦ rw other tt ]
-  shaped_stamped d le (b.Mark n) (e.Stamp m) shaped low = elim shaped [ ]
-  shaped_stamped d le (b.Mark n) (e.Mark m) shaped low = elim shaped [ ]
+  shaped_stamped d le (moment.Mark n) None shaped low = elim (cases_Bool (eqb n s)) [ inl its ↦ rw its tt | inr other ↦ rw other tt ]
+  shaped_stamped d le (moment.Mark n) (Some (moment.Stamp m)) shaped low = elim shaped [ ]
+  shaped_stamped d le (moment.Mark n) (Some (moment.Mark m)) shaped low = elim shaped [ ]
 
 -- versions, stamped
 module _ {R : Type 0} where

@@ -4,10 +4,8 @@ use Rattle.std.proofs.Common.{◌≡◌, ℕ, ◌≤◌, Bool, true, false, cond
 use Rattle.std.specs.List.{AllByRecursion as All}
 use Rattle.std.proofs.lemmas.Bool.{cases_Bool}
 use Rattle.std.proofs.lemmas.Bool.Decides.{nat_tests}
-use Rattle.rules.specs.declared.tables.Begin.{Begin}
-use Rattle.rules.specs.declared.tables.End.{End}
-use Rattle.rules.specs.declared.tables.Begin.TheVariants as b
-use Rattle.rules.specs.declared.tables.End.TheVariants as e
+use Rattle.rules.specs.declared.times.Moment.{Moment}
+use Rattle.rules.specs.declared.times.Moment.TheVariants as moment
 use Rattle.rules.specs.Times.{begin_marked, end_marked, begin_above, end_above, reopen}
 use Rattle.slots.specs.Lists.{any, one, each, one_if}
 use Rattle.slots.proofs.Folds.{any_same, all_none, all_then, all_every, each_same, each_each, any_each, all_each, any_unless}
@@ -30,35 +28,35 @@ module _ {R : Type 0} where
 -- ends, reopened
 module _ (s : ℕ) where
   -- an end without a mark of s stays as it is
-  end_kept : (y : End) → end_marked y s ≡ false → reopen s y ≡ y
-  end_kept e.Open none = refl
-  end_kept (e.Stamp n) none = refl
-  end_kept (e.Mark n) none = rw none
+  end_kept : (y : Option Moment) → end_marked y s ≡ false → reopen s y ≡ y
+  end_kept None none = refl
+  end_kept (Some (moment.Stamp n)) none = refl
+  end_kept (Some (moment.Mark n)) none = rw none
 
   -- no reader without marks tells it, and stamps stay as they are
-  ended_same : (t : ℕ) (y : End) → plain_ended t (reopen s y) ≡ plain_ended t y
-  ended_same t e.Open = refl
-  ended_same t (e.Stamp n) = refl
-  ended_same t (e.Mark n) = grind (arith, nat_tests)
+  ended_same : (t : ℕ) (y : Option Moment) → plain_ended t (reopen s y) ≡ plain_ended t y
+  ended_same t None = refl
+  ended_same t (Some (moment.Stamp n)) = refl
+  ended_same t (Some (moment.Mark n)) = grind (arith, nat_tests)
 
-  above_same : (t : ℕ) (y : End) → end_above (reopen s y) t ≡ end_above y t
-  above_same t e.Open = refl
-  above_same t (e.Stamp n) = refl
-  above_same t (e.Mark n) = grind (arith, nat_tests)
+  above_same : (t : ℕ) (y : Option Moment) → end_above (reopen s y) t ≡ end_above y t
+  above_same t None = refl
+  above_same t (Some (moment.Stamp n)) = refl
+  above_same t (Some (moment.Mark n)) = grind (arith, nat_tests)
 
   -- no mark is left, if there is no other session's
-  end_unmarked : (y : End) → OnlyEnd s y → (m : ℕ) → end_marked (reopen s y) m ≡ false
-  end_unmarked e.Open only m = refl
-  end_unmarked (e.Stamp n) only m = refl
-  end_unmarked (e.Mark n) only m = let own = own_mark n s only in grind (arith, nat_tests)
+  end_unmarked : (y : Option Moment) → OnlyEnd s y → (m : ℕ) → end_marked (reopen s y) m ≡ false
+  end_unmarked None only m = refl
+  end_unmarked (Some (moment.Stamp n)) only m = refl
+  end_unmarked (Some (moment.Mark n)) only m = let own = own_mark n s only in grind (arith, nat_tests)
 
-  shaped_reopened : (x : Begin) (y : End) → Shaped x y → Shaped x (reopen s y)
-  shaped_reopened (b.Stamp n) e.Open shaped = tt
-  shaped_reopened (b.Stamp n) (e.Stamp m) shaped = shaped
-  shaped_reopened (b.Stamp n) (e.Mark m) shaped = elim (cases_Bool (eqb m s)) [ inl its ↦ rw its tt | inr other ↦ rw other tt ]
-  shaped_reopened (b.Mark n) e.Open shaped = tt
-  shaped_reopened (b.Mark n) (e.Stamp m) shaped = elim shaped [ ]
-  shaped_reopened (b.Mark n) (e.Mark m) shaped = elim shaped [ ]
+  shaped_reopened : (x : Moment) (y : Option Moment) → Shaped x y → Shaped x (reopen s y)
+  shaped_reopened (moment.Stamp n) None shaped = tt
+  shaped_reopened (moment.Stamp n) (Some (moment.Stamp m)) shaped = shaped
+  shaped_reopened (moment.Stamp n) (Some (moment.Mark m)) shaped = elim (cases_Bool (eqb m s)) [ inl its ↦ rw its tt | inr other ↦ rw other tt ]
+  shaped_reopened (moment.Mark n) None shaped = tt
+  shaped_reopened (moment.Mark n) (Some (moment.Stamp m)) shaped = elim shaped [ ]
+  shaped_reopened (moment.Mark n) (Some (moment.Mark m)) shaped = elim shaped [ ]
 
 -- versions, undone
 module _ {R : Type 0} (s : ℕ) where
@@ -89,27 +87,27 @@ module _ {R : Type 0} (s : ℕ) where
   plain_left : (t : ℕ) (v : Version R) → left (v_plain t) v ≡ v_plain t v
   plain_left t v = rw (ended_same s t v.end) (go v.begin (plain_ended t v.end))
     where
-      go : (x : Begin) (over : Bool) → (not (begin_marked x s) && (plain_begun t x && not over)) ≡ (plain_begun t x && not over)
-      go (b.Stamp n) over = refl
-      go (b.Mark n) over = grind arith
+      go : (x : Moment) (over : Bool) → (not (begin_marked x s) && (plain_begun t x && not over)) ≡ (plain_begun t x && not over)
+      go (moment.Stamp n) over = refl
+      go (moment.Mark n) over = grind arith
 
   above_left : (t : ℕ) (v : Version R) → VShaped v → left (v_above t) v ≡ v_above t v
   above_left t v shaped = rw (above_same s t v.end) (go v.begin v.end shaped)
     where
-      go : (x : Begin) (y : End) → Shaped x y
+      go : (x : Moment) (y : Option Moment) → Shaped x y
           → (not (begin_marked x s) && (begin_above x t || end_above y t)) ≡ (begin_above x t || end_above y t)
-      go (b.Stamp n) y shaped = refl
-      go (b.Mark n) e.Open shaped = grind arith
-      go (b.Mark n) (e.Stamp m) shaped = elim shaped [ ]
-      go (b.Mark n) (e.Mark m) shaped = elim shaped [ ]
+      go (moment.Stamp n) y shaped = refl
+      go (moment.Mark n) None shaped = grind arith
+      go (moment.Mark n) (Some (moment.Stamp m)) shaped = elim shaped [ ]
+      go (moment.Mark n) (Some (moment.Mark m)) shaped = elim shaped [ ]
 
   -- no mark is left, if there is no other session's
   begun_left : (m : ℕ) (v : Version R) → OnlyMark s v → left (v_begun m) v ≡ false
   begun_left m v only = go v.begin (only_begin s v only)
     where
-      go : (x : Begin) → OnlyBegin s x → (not (begin_marked x s) && begin_marked x m) ≡ false
-      go (b.Stamp n) only = refl
-      go (b.Mark n) only = let own = own_mark n s only in grind (arith, nat_tests)
+      go : (x : Moment) → OnlyBegin s x → (not (begin_marked x s) && begin_marked x m) ≡ false
+      go (moment.Stamp n) only = refl
+      go (moment.Mark n) only = let own = own_mark n s only in grind (arith, nat_tests)
 
   ended_left : (m : ℕ) (v : Version R) → OnlyMark s v → left (v_ended m) v ≡ false
   ended_left m v only = let none = end_unmarked s v.end (only_end s v only) m in grind arith

@@ -2,38 +2,36 @@
 -- `Tidy` is what the history alone keeps to at a key. The lemmas of the other files keep both.
 use Rattle.std.proofs.Common.{◌≡◌, ℕ, ◌≤◌, Bool, true, false, not, ◌&&◌, ◌||◌, ltb, leb, List, is_some, Some, None, Option}
 use Rattle.std.specs.List.{AllByRecursion as All}
-use Rattle.rules.specs.declared.tables.Begin.{Begin}
-use Rattle.rules.specs.declared.tables.End.{End}
-use Rattle.rules.specs.declared.tables.Begin.TheVariants as b
-use Rattle.rules.specs.declared.tables.End.TheVariants as e
+use Rattle.rules.specs.declared.times.Moment.{Moment}
+use Rattle.rules.specs.declared.times.Moment.TheVariants as moment
 use Rattle.rules.specs.Times.{sees, begin_marked, end_marked, begin_above, end_above}
 use Rattle.slots.specs.Lists.{any, each, one_if, list_of}
 use Rattle.versions.specs.History.{Commit, Turn, shown, turn_writes, turn_read}
 
 -- a version of one key
 pub record Version (R : Type 0) : Type 0 where
-  pub begin : Begin
-  pub end : End
+  pub begin : Moment
+  pub end : Option Moment
   pub row : R
 
 -- what has begun, and what has ended, at time t for a reader that has no marks
-abbrev pub plain_begun : ℕ → Begin → Bool
-plain_begun t (b.Stamp n) = leb n t
-plain_begun t (b.Mark m) = false
+abbrev pub plain_begun : ℕ → Moment → Bool
+plain_begun t (moment.Stamp n) = leb n t
+plain_begun t (moment.Mark m) = false
 
-abbrev pub plain_ended : ℕ → End → Bool
-plain_ended t e.Open = false
-plain_ended t (e.Stamp n) = leb n t
-plain_ended t (e.Mark m) = false
+abbrev pub plain_ended : ℕ → Option Moment → Bool
+plain_ended t None = false
+plain_ended t (Some (moment.Stamp n)) = leb n t
+plain_ended t (Some (moment.Mark m)) = false
 
 -- a marked begin has an open end, and no end's stamp is below its begin's
-abbrev pub Shaped : Begin → End → Type 0
-Shaped (b.Stamp n) e.Open = Unit {0}
-Shaped (b.Stamp n) (e.Stamp m) = n ≤ m
-Shaped (b.Stamp n) (e.Mark s) = Unit {0}
-Shaped (b.Mark s) e.Open = Unit {0}
-Shaped (b.Mark s) (e.Stamp m) = ⊥
-Shaped (b.Mark s) (e.Mark m) = ⊥
+abbrev pub Shaped : Moment → Option Moment → Type 0
+Shaped (moment.Stamp n) None = Unit {0}
+Shaped (moment.Stamp n) (Some (moment.Stamp m)) = n ≤ m
+Shaped (moment.Stamp n) (Some (moment.Mark s)) = Unit {0}
+Shaped (moment.Mark s) None = Unit {0}
+Shaped (moment.Mark s) (Some (moment.Stamp m)) = ⊥
+Shaped (moment.Mark s) (Some (moment.Mark m)) = ⊥
 
 module _ {R : Type 0} where
   -- tests of a version: seen at time t without marks, seen by session s with read time t

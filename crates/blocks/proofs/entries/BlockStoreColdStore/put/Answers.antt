@@ -11,7 +11,7 @@ returns g c =
     let l = c.args.self.now.long in
     let t : c.args.tag < 2 ^ 32 = omega arith in
     let u = puts g.R.Packed.unpacked limit xs (g.K.Key.number c.args.key) c.args.tag (g.R.Packed.packed c.args.row) c.args.row
-    (omega arith) (g.met.K.Key.fits c.args.key) t (g.met.R.Packed.long c.args.row) (g.met.R.Packed.back c.args.row) c.requires in
+    (omega arith) (g.met.K.Key.fits c.args.key) t (g.met.R.Packed.long c.args.row) (g.met.R.Packed.back c.args.row) c.args.self.now.ordered in
     record {
       answer = c.put_entry.ensures.answer ∙ u.0;
       after = ap (λ k. entries_of g.R.Packed.unpacked k (vec_items c.put_entry.new.self.bytes)) c.put_entry.ensures.limit

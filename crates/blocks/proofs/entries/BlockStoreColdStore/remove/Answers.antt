@@ -9,7 +9,7 @@ returns g c =
     let limit = c.args.self.now.limit in
     let n = c.args.self.now.bytes.ok.0 in
     let l = c.args.self.now.long in
-    let u = removes g.R.Packed.unpacked limit xs (g.K.Key.number c.args.key.now) c.args.tag (omega arith) c.requires in
+    let u = removes g.R.Packed.unpacked limit xs (g.K.Key.number c.args.key.now) c.args.tag (omega arith) c.args.self.now.ordered in
     record {
       answer = c.remove_entry.ensures.answer ∙ u.0;
       after = ap (λ k. entries_of g.R.Packed.unpacked k (vec_items c.remove_entry.new.self.bytes)) c.remove_entry.ensures.limit
