@@ -4,3 +4,4 @@ pub mod Low
 pub mod Ext
 pub mod ListingPackedLemmas
 pub mod CaseNumber
+pub mod RowText

@@ -1,12 +1,12 @@
 -- The text that answers an archive: a line for each entry, and then their count.
-use Rattle.std.specs.Prelude.{ℕ, ◌+◌, ◌/◌, ◌%◌, cond, List, [], ◌∷◌, ◌++◌, length, None, codes, nat_lt}
+use Rattle.std.specs.Prelude.{ℕ, ◌+◌, ◌/◌, ◌%◌, cond, List, [], ◌∷◌, ◌++◌, length, Some, None, Option, Ok, Err, codes, nat_lt}
+use Rattle.std.specs.List.{flat_map}
 use Rattle.keys.specs.declared.rows.ListingRow.{ListingRow}
 use Rattle.keys.specs.Packing.{packed_listing}
+use Rattle.keys.specs.RowText.{row_text}
 use Rattle.text.specs.Parts.{lines}
 use Rattle.text.specs.Numbers.{decimal_text}
-use Rattle.records.specs.Entries.{entries}
-use Rattle.records.specs.declared.record.Entry.{Entry}
-use Rattle.records.specs.declared.record.Entry.TheVariants.{Good, Bad}
+use Rattle.records.specs.Entries.{Entry, entries}
 use Rattle.records.specs.declared.record.Record.{Record}
 
 -- a number below 16 as a digit: '0' to '9', then 'a' to 'f'
@@ -14,13 +14,16 @@ abbrev pub hex_digit : ℕ → ℕ
 hex_digit n = cond (nat_lt n 10) (48 + n) (87 + n)
 
 -- two digits for each byte, the high one first
-unfoldable pub hex_text : List ℕ → List ℕ
-hex_text [] = []
-hex_text (b ∷ bs) = hex_digit (b / 16) ∷ (hex_digit (b % 16) ∷ hex_text bs)
+abbrev pub hex_digits : ℕ → List ℕ
+hex_digits b = hex_digit (b / 16) ∷ (hex_digit (b % 16) ∷ [])
 
--- PRICE,SEATS,SELLER
-abbrev pub row_text : ListingRow → List ℕ
-row_text r = decimal_text r.price ++ (codes "," ++ (decimal_text r.seats ++ (codes "," ++ decimal_text r.seller)))
+abbrev pub hex_text : List ℕ → List ℕ
+hex_text = flat_map hex_digits
+
+-- PRICE,SEATS,SELLER, or none
+abbrev pub found_text : Option ListingRow → List ℕ
+found_text (Some r) = row_text r
+found_text None = codes "none"
 
 -- k=NUMBER packed=HEX v=PRICE,SEATS,SELLER
 abbrev pub record_text : Record → List ℕ
@@ -29,10 +32,13 @@ record_text r =
     ++ (codes " packed=" ++ (hex_text (packed_listing r.row)
     ++ (codes " v=" ++ row_text r.row))))
 
+abbrev pub bad_line_text : List ℕ
+bad_line_text = codes "bad=line"
+
 -- the answer to an entry, with its newline
 abbrev pub entry_text : Entry → List ℕ
-entry_text (Good r) = record_text r ++ codes "\n"
-entry_text Bad = codes "bad=line\n"
+entry_text (Ok r) = record_text r ++ codes "\n"
+entry_text (Err b) = bad_line_text ++ codes "\n"
 
 unfoldable pub entries_text : List Entry → List ℕ
 entries_text [] = []
@@ -40,8 +46,8 @@ entries_text (e ∷ es) = entry_text e ++ entries_text es
 
 -- how many entries are records
 abbrev pub is_good : Entry → ℕ
-is_good (Good r) = 1
-is_good Bad = 0
+is_good (Ok r) = 1
+is_good (Err b) = 0
 
 unfoldable pub count_good : List Entry → ℕ
 count_good [] = 0

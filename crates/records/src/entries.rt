@@ -1,9 +1,10 @@
-ghost use Rattle.std.specs.Prelude.{◌≡◌, drop, None};
-ghost use Rattle.text.specs.Parts.{lines, first};
+ghost use Rattle.std.specs.Prelude.{◌≡◌, None};
+ghost use Rattle.std.specs.Iterator.{YieldsFirst, item_count};
+ghost use Rattle.text.specs.Parts.{lines};
 ghost use Rattle.records.specs.Entries.{entry_of, above, key_after, entries, entries_left};
 
 use crate::reading::record;
-use crate::record::Entry;
+use crate::record::{BadLine, Entry};
 use keys::key::OrderedKey;
 use keys::listing::Listing;
 use text::lines::Lines;
@@ -12,36 +13,23 @@ use text::lines::Lines;
 fn is_above(key: &Listing, last: &Option<Listing>) -> bool
     ensures { result ≡ above last.now key.now }
 {
-    match last {
-        Some(before) => before.is_below(key),
-        None => true,
-    }
+    last.is_none_or(|before| before.is_below(key))
 }
 
 // What a line holds after a record of key `last`: a record of a higher key, or nothing that can be served.
 fn read_entry(last: &Option<Listing>, line: &[u8]) -> Entry
     ensures { result ≡ entry_of last.now line.now }
 {
-    match record(line) {
-        Some(read) => {
-            if is_above(&read.key, last) {
-                Entry::Good(read)
-            } else {
-                Entry::Bad
-            }
-        }
-        None => Entry::Bad,
-    }
+    record(line)
+        .filter(|read| is_above(&read.key, last))
+        .ok_or(BadLine)
 }
 
 // The last key after an entry: a bad one leaves it as it was.
 fn last_after(last: Option<Listing>, entry: &Entry) -> Option<Listing>
     ensures { result ≡ key_after last entry.now }
 {
-    match entry {
-        Entry::Good(read) => Some(read.key),
-        Entry::Bad => last,
-    }
+    entry.ok().map(|read| read.key).or(last)
 }
 
 // Gives the entries of an archive's text, one for each line.
@@ -61,12 +49,16 @@ impl<'a> Entries<'a> {
             last: None,
         }
     }
+}
 
-    // The next entry, or None after the last line.
-    pub fn next(&mut self) -> Option<Entry>
-        ensures value { result ≡ first (entries_left self.old) }
-        ensures rest { entries_left self.new ≡ drop 1 (entries_left self.old) }
-    {
+impl<'a> Iterator for Entries<'a> {
+    type Item = Entry;
+
+    ghost next_gives = { YieldsFirst entries_left };
+
+    ghost remaining = { item_count entries_left };
+
+    fn next(&mut self) -> Option<Entry> {
         let line = self.lines.next()?;
         let entry = read_entry(&self.last, line);
         self.last = last_after(self.last, &entry);

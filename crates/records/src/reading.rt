@@ -26,9 +26,9 @@ pub fn listing_row(value: &[u8]) -> Option<ListingRow>
     ensures { result ≡ row_of value.now }
 {
     let mut parts = Parts::of(value, b',');
-    let price = number(&mut parts, 4294967295)?;
-    let seats = number(&mut parts, 65535)?;
-    let seller = number(&mut parts, 4294967295)?;
+    let price = number(&mut parts, u32::MAX as u64)?;
+    let seats = number(&mut parts, u16::MAX as u64)?;
+    let seller = number(&mut parts, u32::MAX as u64)?;
     if parts.next().is_some() {
         return None;
     }

@@ -2,7 +2,7 @@ ghost use Rattle.std.specs.Prelude.{◌≡◌, IfOk};
 ghost use Rattle.records.specs.Writing.{report_of, answer_of};
 
 use crate::entries::Entries;
-use crate::writing::{push_entry, push_summary, tally};
+use crate::writing::{push_entry, push_summary};
 use std::alloc::{AllocError, Global};
 
 // All that is written for an archive's text: a line for each of its lines, and how many of them are records.
@@ -11,10 +11,9 @@ pub fn report(heap: Global, input: &[u8]) -> Result<Vec<u8>, AllocError>
 {
     let mut out = Vec::new(heap);
     let mut count = 0;
-    let mut entries = Entries::of(input);
-    while let Some(entry) = entries.next() {
+    for entry in Entries::of(input) {
         push_entry(&mut out, &entry)?;
-        count += tally(&entry);
+        count += u64::from(entry.is_ok());
     }
     push_summary(&mut out, count)?;
     Ok(out)

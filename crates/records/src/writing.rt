@@ -1,43 +1,41 @@
-ghost use Rattle.std.specs.Prelude.{◌≡◌, ◌<◌, ◌++◌, OnOk};
-ghost use Rattle.records.specs.Writing.{hex_digit, hex_text, row_text, record_text, entry_text, summary_text, is_good};
+ghost use Rattle.std.specs.Prelude.{◌≡◌, ◌++◌, Some, OnOk};
+ghost use Rattle.records.specs.Writing.{hex_text, found_text, record_text, bad_line_text, entry_text, summary_text};
 
-use crate::record::{Entry, Record};
+use crate::record::{BadLine, Entry, Record};
 use keys::packing::Packed;
 use keys::rows::ListingRow;
 use std::alloc::AllocError;
-use text::numbers::push_decimal;
+use std::fmt;
+use std::io::Write;
 
-// A number below 16 as a hexadecimal digit.
-fn hex_digit(n: u8) -> u8
-    requires { n < 16 }
-    ensures { result ≡ hex_digit n }
-{
-    if n < 10 { b'0' + n } else { b'a' - 10 + n }
-}
+// Bytes, each written as two hexadecimal digits.
+#[derive(Clone, Copy, Debug)]
+pub struct Hex<'a>(pub &'a [u8]);
 
-// Appends two hexadecimal digits for each byte.
-pub fn push_hex(out: &mut Vec<u8>, bytes: &[u8]) -> Result<(), AllocError>
-    ensures { OnOk result (out.new.items ≡ out.old.items ++ hex_text bytes.now) }
-{
-    for b in bytes {
-        let high = hex_digit(*b / 16);
-        let low = hex_digit(*b % 16);
-        out.push(high)?;
-        out.push(low)?;
+impl fmt::Display for Hex<'_> {
+    ghost output = { λ h. Some (hex_text h.0.now) };
+
+    fn fmt<W: fmt::Write>(&self, f: &mut fmt::Formatter<W>) -> fmt::Result {
+        for &b in self.0 {
+            write!(f, "{b:02x}")?;
+        }
+        Ok(())
     }
-    Ok(())
 }
 
-// Appends PRICE,SEATS,SELLER.
-pub fn push_row(out: &mut Vec<u8>, row: &ListingRow) -> Result<(), AllocError>
-    ensures { OnOk result (out.new.items ≡ out.old.items ++ row_text row.now) }
-{
-    push_decimal(out, u64::from(row.price))?;
-    out.push(b',')?;
-    push_decimal(out, u64::from(row.seats))?;
-    out.push(b',')?;
-    push_decimal(out, u64::from(row.seller))?;
-    Ok(())
+// What a find gave, written PRICE,SEATS,SELLER or none.
+#[derive(Clone, Copy)]
+pub struct Found(pub Option<ListingRow>);
+
+impl fmt::Display for Found {
+    ghost output = { λ f. Some (found_text f.0) };
+
+    fn fmt<W: fmt::Write>(&self, f: &mut fmt::Formatter<W>) -> fmt::Result {
+        match self.0 {
+            Some(row) => write!(f, "{row}"),
+            None => write!(f, "none"),
+        }
+    }
 }
 
 // A row's 16 bytes, and the row that is read back from them: the same.
@@ -51,18 +49,24 @@ fn packed_back<R: Packed>(row: &R) -> ([u8; 16], R)
     (bytes, back)
 }
 
-// Appends k=NUMBER packed=HEX v=PRICE,SEATS,SELLER: the packed row, and the row read back from it.
-fn push_record(out: &mut Vec<u8>, read: &Record) -> Result<(), AllocError>
-    ensures { OnOk result (out.new.items ≡ out.old.items ++ record_text read.now) }
-{
-    let (bytes, back) = packed_back(&read.row);
-    out.extend_from_slice(b"k=")?;
-    push_decimal(out, read.key.id)?;
-    out.extend_from_slice(b" packed=")?;
-    push_hex(out, &bytes)?;
-    out.extend_from_slice(b" v=")?;
-    push_row(out, &back)?;
-    Ok(())
+// A record is written k=NUMBER packed=HEX v=PRICE,SEATS,SELLER: the packed row, and the row read back from it.
+impl fmt::Display for Record {
+    ghost output = { λ r. Some (record_text r) };
+
+    fn fmt<W: fmt::Write>(&self, f: &mut fmt::Formatter<W>) -> fmt::Result {
+        let (bytes, row) = packed_back(&self.row);
+        let id = self.key.id;
+        let packed = Hex(&bytes);
+        write!(f, "k={id} packed={packed} v={row}")
+    }
+}
+
+impl fmt::Display for BadLine {
+    ghost output = { λ _. Some bad_line_text };
+
+    fn fmt<W: fmt::Write>(&self, f: &mut fmt::Formatter<W>) -> fmt::Result {
+        write!(f, "bad=line")
+    }
 }
 
 // Appends the line that answers an entry.
@@ -70,34 +74,15 @@ pub fn push_entry(out: &mut Vec<u8>, entry: &Entry) -> Result<(), AllocError>
     ensures { OnOk result (out.new.items ≡ out.old.items ++ entry_text entry.now) }
 {
     match entry {
-        Entry::Good(read) => {
-            push_record(out, read)?;
-            out.push(b'\n')?;
-            Ok(())
-        }
-        Entry::Bad => {
-            out.extend_from_slice(b"bad=line\n")?;
-            Ok(())
-        }
+        Ok(read) => writeln!(out, "{read}"),
+        Err(bad) => writeln!(out, "{bad}"),
     }
-}
-
-// 1 for a record and 0 for a bad line.
-pub fn tally(entry: &Entry) -> u64
-    ensures { result ≡ is_good entry.now }
-{
-    match entry {
-        Entry::Good(_) => 1,
-        Entry::Bad => 0,
-    }
+    .map_err(|_| AllocError)
 }
 
 // Appends records=COUNT.
 pub fn push_summary(out: &mut Vec<u8>, count: u64) -> Result<(), AllocError>
     ensures { OnOk result (out.new.items ≡ out.old.items ++ summary_text count) }
 {
-    out.extend_from_slice(b"records=")?;
-    push_decimal(out, count)?;
-    out.push(b'\n')?;
-    Ok(())
+    writeln!(out, "records={count}").map_err(|_| AllocError)
 }

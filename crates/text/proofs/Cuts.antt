@@ -1,27 +1,27 @@
-use Rattle.std.proofs.Common.{◌≡◌, ℕ, suc, ◌+◌, ◌-◌, ◌<◌, ◌≤◌, Bool, true, false, cond, eqb, ◌⊎◌, List, [], ◌∷◌, ◌++◌, length, get_or, take, drop, sym, refl, ap, ◌∙◌, inl, inr, ⊎_elim, arith}
-use Rattle.std.proofs.lemmas.List.{at_drop_more, at_drop_all, take_rest, drop_all}
+use Rattle.std.proofs.Common.{◌≡◌, ◌≢◌, ℕ, suc, ◌+◌, ◌<◌, ◌≤◌, Bool, true, false, cond, eqb, ◌⊎◌, List, [], ◌∷◌, ◌++◌, length, take, drop, Option, MatchOption, unwrap_or, sym, refl, ap, ◌∙◌, inl, inr, ⊎_elim, add-one, arith}
+use Rattle.std.proofs.lemmas.Iterator.{index_from_first}
+use Rattle.std.specs.List.{AllWithin, HoldsAt}
 use Rattle.std.proofs.lemmas.Bool.{eq-eqb, ne_eqb, eqb-true, cond-true, cond-false}
 use Rattle.text.specs.Parts.{count_to, onto, cut, split, lines, join}
 
--- counting up to a byte: i bytes are passed, and what is left gives the rest
-module _ (at : ℕ) (bs : List ℕ) (i : ℕ) {goal : ℕ} where
-  pub count_here : i < length bs → get_or bs i 0 ≡ at → i + count_to at (drop i bs) ≡ goal → i ≡ goal
+-- the first place of a byte, or the length where it is not there
+module _ (at : ℕ) where
+  here : (b : ℕ) (bs : List ℕ) → b ≡ at → count_to at (b ∷ bs) ≡ 0
   unfolding count_to
-  count_here h e inv =
-      let d : count_to at (drop i bs) ≡ count_to at (get_or bs i 0 ∷ drop (i + 1) bs) = at_drop_more (count_to at) bs i 0 h in
-      let z : count_to at (drop i bs) ≡ 0 = d ∙ cond-true _ 0 _ (eq-eqb _ _ e) in
-      omega arith
+  here b bs e = cond-true (eqb b at) 0 _ (eq-eqb b at e)
 
-  pub count_more : i < length bs → (get_or bs i 0 ≡ at → ⊥) → i + count_to at (drop i bs) ≡ goal → (i + 1) + count_to at (drop (i + 1) bs) ≡ goal
+  further : (b : ℕ) (bs : List ℕ) → b ≢ at → count_to at (b ∷ bs) ≡ count_to at bs + 1
   unfolding count_to
-  count_more h e inv =
-      let d : count_to at (drop i bs) ≡ count_to at (get_or bs i 0 ∷ drop (i + 1) bs) = at_drop_more (count_to at) bs i 0 h in
-      let z : count_to at (drop i bs) ≡ suc (count_to at (drop (i + 1) bs)) = d ∙ cond-false _ 0 _ (ne_eqb _ _ e) in
-      omega arith
+  further b bs n = cond-false (eqb b at) 0 _ (ne_eqb b at n) ∙ sym (add-one _)
 
-  pub count_all : length bs ≤ i → i + count_to at (drop i bs) ≡ goal → i ≡ goal
+  none : count_to at [] ≡ 0
   unfolding count_to
-  count_all h inv = let d : count_to at (drop i bs) ≡ 0 = at_drop_all (count_to at) bs i h in omega arith
+  none = refl
+
+  pub count_first : (bs : List ℕ) (r : Option ℕ)
+      → MatchOption r (AllWithin (λ b. b ≢ at) bs 0 (length bs)) (λ i. (i < length bs) × HoldsAt (λ b. b ≡ at) bs i × AllWithin (λ b. b ≢ at) bs 0 i)
+      → unwrap_or r (length bs) ≡ count_to at bs
+  count_first bs r h = sym (index_from_first (count_to at) (λ b. b ≡ at) (λ b. b ≢ at) none here further bs r h)
 
 -- a text with the byte `at` in it begins with the part before that byte
 module _ (at : ℕ) (last : List (List ℕ)) where
@@ -38,12 +38,10 @@ module _ (at : ℕ) (last : List (List ℕ)) where
   cut_found [] h = absurd (omega arith)
   cut_found (b ∷ bs) h = found_step b bs (eqb b at) h (cut_found bs)
 
-  -- the same, in the terms of the code: e is what count_to gave
-  pub cut_next : (bs : List ℕ) (e : ℕ) → e ≡ count_to at bs → e ≤ length bs → (e ≡ length bs → ⊥)
-      → take e bs ∷ cut at last (take (length bs - (e + 1)) (drop (e + 1) bs)) ≡ cut at last bs
-  cut_next bs e f l n =
-      let h : count_to at bs < length bs = omega arith in
-      rw (take_rest bs (e + 1), f) (sym (cut_found bs h))
+  -- the same of the two texts that stand before and after it
+  pub cut_next : (bs part rest : List ℕ) → (part ≡ take (count_to at bs) bs) × (rest ≡ drop (count_to at bs + 1) bs) × (count_to at bs + 1 ≤ length bs)
+      → cut at last bs ≡ part ∷ cut at last rest
+  cut_next bs part rest h = rw (h.0, h.1) (cut_found bs (omega (arith, h.2)))
 
   -- a text without that byte is one part
   alone : (b : ℕ) (x y : List (List ℕ)) (t : Bool) (m n : ℕ) → cond t 0 (suc m) ≡ suc n → (cond t x y ≡ y) × (m ≡ n)
@@ -58,24 +56,19 @@ module _ (at : ℕ) (last : List (List ℕ)) where
       let p = alone b ([] ∷ cut at last (c ∷ cs)) (onto b (cut at last (c ∷ cs))) (eqb b at) (count_to at (c ∷ cs)) (length (c ∷ cs)) h in
       p.0 ∙ ap (onto b) (cut_none only c cs p.1)
 
-pub split_none : (at : ℕ) (bs : List ℕ) → count_to at bs ≡ length bs → bs ∷ [] ≡ split at bs
+pub split_none : (at : ℕ) (bs : List ℕ) → count_to at bs ≡ length bs → split at bs ≡ bs ∷ []
 unfolding cut
 split_none at [] h = refl
-split_none at (b ∷ bs) h = sym (cut_none at ([] ∷ []) (λ b. refl) b bs h)
+split_none at (b ∷ bs) h = cut_none at ([] ∷ []) (λ b. refl) b bs h
 
 pub lines_empty : (bs : List ℕ) → length bs ≡ 0 → lines bs ≡ []
 unfolding cut
 lines_empty [] h = refl
 lines_empty (b ∷ bs) h = absurd (let z : ⊥ = omega arith in z)
 
--- what `&bs[e..]` leaves at the end of bs
-pub lines_done : (bs : List ℕ) (e : ℕ) → e ≡ length bs → lines (take (length bs - e) (drop e bs)) ≡ []
-unfolding cut
-lines_done bs e h = ap lines (take_rest bs e ∙ drop_all e bs (omega arith))
-
-pub lines_none : (bs : List ℕ) → (length bs ≡ 0 → ⊥) → count_to 10 bs ≡ length bs → bs ∷ [] ≡ lines bs
+pub lines_none : (bs : List ℕ) → (length bs ≡ 0 → ⊥) → count_to 10 bs ≡ length bs → lines bs ≡ bs ∷ []
 lines_none [] n h = absurd (n refl)
-lines_none (b ∷ bs) n h = sym (cut_none 10 [] (λ b. refl) b bs h)
+lines_none (b ∷ bs) n h = cut_none 10 [] (λ b. refl) b bs h
 
 -- the parts joined again are the text
 some_onto : (b : ℕ) (x : List (List ℕ)) → 0 < length (onto b x)

@@ -1,5 +1,5 @@
-use Rattle.std.proofs.Common.{◌≡◌, ℕ, ◌+◌, ◌-◌, ◌*◌, ◌/◌, ◌%◌, ◌^◌, ◌<◌, ◌≤◌, true, false, ◌&&◌, ltb, leb, List, [], ◌∷◌, ◌++◌, length, get_or, drop, Some, None, decimal, sym, ap, ◌∙◌, append_assoc, arith, rules}
-use Rattle.std.proofs.lemmas.Fmt.{AppendsLastDigit, decimal_from_appends, decimal_digit, decimal_step, length-decimal-le, decimal_nonempty, digits_decimal, digits_value-decimal}
+use Rattle.std.proofs.Common.{◌≡◌, ℕ, ◌+◌, ◌-◌, ◌*◌, ◌^◌, ◌<◌, ◌≤◌, true, false, ◌&&◌, ltb, leb, List, [], ◌∷◌, length, get_or, drop, Some, None, sym, ap, ◌∙◌, arith, rules}
+use Rattle.std.proofs.lemmas.Fmt.{AppendsLastDigit, decimal_from_appends, length-decimal-le, decimal_nonempty, digits_decimal, digits_value-decimal}
 use Rattle.std.proofs.lemmas.List.{at_drop_more, at_drop_all}
 use Rattle.std.proofs.lemmas.Str.Parse.{IsNumeralModel, numerals_by_fold}
 use Rattle.std.proofs.lemmas.Bool.{le-leb, lt-leb, lt-ltb, le-ltb, and_left, and_right, and_from, cond-true, cond-false}
@@ -18,23 +18,18 @@ pub empty_refused : (limit : ℕ) (bs : List ℕ) → length bs ≡ 0 → None �
 empty_refused limit bs e = sym (cond-false _ _ None (and_left (ltb 0 (length bs)) _ (le-ltb 0 (length bs) (omega arith))))
 
 -- reading: n is the number of the first i digits, and what is left gives the answer
-module _ (limit n : ℕ) (bs : List ℕ) (i : ℕ) where
+module _ (limit : ℕ) (bs : List ℕ) (i : ℕ) where
   digits_step : i < length bs → all_digits (drop i bs) ≡ all_digits bs → (is_digit (get_or bs i 0) && all_digits (drop (i + 1) bs)) ≡ all_digits bs
   unfolding all_digits
   digits_step h inv = sym (at_drop_more all_digits bs i 0 h) ∙ inv
 
+  pub no_digit : i < length bs → all_digits (drop i bs) ≡ all_digits bs → is_digit (get_or bs i 0) ≡ false → None ≡ decimal_of limit bs
+  no_digit h inv e = refused limit bs (and_left _ _ (sym (digits_step h inv) ∙ and_left _ _ e))
+
+module _ (limit n : ℕ) (bs : List ℕ) (i : ℕ) where
   value_step : i < length bs → value_after n (drop i bs) ≡ value bs → value_after (n * 10 + (get_or bs i 0 - 48)) (drop (i + 1) bs) ≡ value bs
   unfolding value_after
   value_step h inv = sym (at_drop_more (value_after n) bs i 0 h) ∙ inv
-
-  no_digit : i < length bs → all_digits (drop i bs) ≡ all_digits bs → is_digit (get_or bs i 0) ≡ false → None ≡ decimal_of limit bs
-  no_digit h inv e = refused limit bs (and_left _ _ (sym (digits_step h inv) ∙ and_left _ _ e))
-
-  pub read_low : i < length bs → get_or bs i 0 < 48 → all_digits (drop i bs) ≡ all_digits bs → None ≡ decimal_of limit bs
-  read_low h e inv = no_digit h inv (and_left _ _ (lt-leb 48 (get_or bs i 0) e))
-
-  pub read_high : i < length bs → 57 < get_or bs i 0 → all_digits (drop i bs) ≡ all_digits bs → None ≡ decimal_of limit bs
-  read_high h e inv = no_digit h inv (and_right _ _ (lt-leb (get_or bs i 0) 57 e))
 
   pub read_over : i < length bs → limit < n * 10 + (get_or bs i 0 - 48) → value_after n (drop i bs) ≡ value bs → None ≡ decimal_of limit bs
   read_over h o inv =
@@ -43,12 +38,10 @@ module _ (limit n : ℕ) (bs : List ℕ) (i : ℕ) where
       let l : limit < value bs = omega arith in
       refused limit bs (and_right (all_digits bs) _ (lt-leb (value bs) limit l))
 
-  pub read_more : i < length bs → 48 ≤ get_or bs i 0 → get_or bs i 0 ≤ 57
+  pub read_more : i < length bs → is_digit (get_or bs i 0) ≡ true
       → (all_digits (drop i bs) ≡ all_digits bs) × (value_after n (drop i bs) ≡ value bs)
       → (all_digits (drop (i + 1) bs) ≡ all_digits bs) × (value_after (n * 10 + (get_or bs i 0 - 48)) (drop (i + 1) bs) ≡ value bs)
-  read_more h e f inv =
-      let d : is_digit (get_or bs i 0) ≡ true = and_from _ _ (le-leb 48 (get_or bs i 0) e) (le-leb (get_or bs i 0) 57 f) in
-      (sym (ap (λ b. b && all_digits (drop (i + 1) bs)) d) ∙ digits_step h inv.0, value_step h inv.1)
+  read_more h d inv = (sym (ap (λ b. b && all_digits (drop (i + 1) bs)) d) ∙ digits_step limit bs i h inv.0, value_step h inv.1)
 
   pub read_all : length bs ≤ i → (length bs ≡ 0 → ⊥) → n ≤ limit
       → (all_digits (drop i bs) ≡ all_digits bs) × (value_after n (drop i bs) ≡ value bs) → Some n ≡ decimal_of limit bs
@@ -60,24 +53,13 @@ module _ (limit n : ℕ) (bs : List ℕ) (i : ℕ) where
       let small = le-leb (value bs) limit (omega arith) in
       ap Some (sym v) ∙ sym (cond-true _ (Some (value bs)) None (and_from _ _ some (and_from _ _ d small)))
 
--- writing: the digits are those that the library writes
+-- what `{}` writes is spelled digit by digit
 spells : AppendsLastDigit digits_within
 unfolding digits_within
 spells = search rules
 
-text_is : (n : ℕ) → n < 2 ^ 64 → decimal_text n ≡ decimal n
-text_is n h = decimal_from_appends digits_within spells 20 n h (length-decimal-le 20 n (omega arith) (omega arith) h)
-
--- one push for a digit alone, and one after the digits before it
-pub text_digit : (old new : List ℕ) (n : ℕ) → n < 10 → new ≡ old ++ ((48 + n) ∷ []) → new ≡ old ++ decimal_text n
-text_digit old new n h e = e ∙ ap (λ z. old ++ z) (sym (text_is n (omega arith) ∙ decimal_digit n h))
-
-pub text_more : (old front new : List ℕ) (n : ℕ) → 10 ≤ n → n < 2 ^ 64 → front ≡ old ++ decimal_text (n / 10)
-    → new ≡ front ++ ((48 + n % 10) ∷ []) → new ≡ old ++ decimal_text n
-text_more old front new n l h e f =
-    let d : decimal_text n ≡ decimal_text (n / 10) ++ ((48 + n % 10) ∷ []) =
-    text_is n h ∙ decimal_step n l h ∙ ap (λ z. z ++ ((48 + n % 10) ∷ [])) (sym (text_is (n / 10) (omega arith))) in
-    f ∙ ap (λ z. z ++ ((48 + n % 10) ∷ [])) e ∙ append_assoc old (decimal_text (n / 10)) ((48 + n % 10) ∷ []) ∙ ap (λ z. old ++ z) (sym d)
+pub text_digits : (n : ℕ) → n < 2 ^ 64 → decimal_text n ≡ digits_within 20 n
+text_digits n h = sym (decimal_from_appends digits_within spells 20 n h (length-decimal-le 20 n (omega arith) (omega arith) h))
 
 -- what is written is read back
 own : IsNumeralModel (λ bs. all_digits bs ≡ true) value
@@ -86,9 +68,8 @@ own = numerals_by_fold _ (search rules) value_after (search rules)
 
 pub text_back : (n limit : ℕ) → n < 2 ^ 64 → n ≤ limit → decimal_of limit (decimal_text n) ≡ Some n
 text_back n limit h l =
-    let e = text_is n h in
-    let d : all_digits (decimal_text n) ≡ true = ap all_digits e ∙ digits_decimal own n h in
-    let v : value (decimal_text n) ≡ n = ap value e ∙ digits_value-decimal own n h in
-    let s : 0 < length (decimal_text n) = rw e (decimal_nonempty n h) in
+    let d : all_digits (decimal_text n) ≡ true = digits_decimal own n h in
+    let v : value (decimal_text n) ≡ n = digits_value-decimal own n h in
+    let s : 0 < length (decimal_text n) = decimal_nonempty n h in
     cond-true _ (Some (value (decimal_text n))) None
     (and_from _ _ (lt-ltb 0 (length (decimal_text n)) s) (and_from _ _ d (le-leb (value (decimal_text n)) limit (omega arith)))) ∙ ap Some v

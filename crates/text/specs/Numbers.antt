@@ -1,5 +1,6 @@
 -- Decimal numbers as text.
 use Rattle.std.specs.Prelude.{ℕ, zero, suc, ◌+◌, ◌-◌, ◌*◌, ◌/◌, ◌%◌, Bool, true, cond, ◌&&◌, List, [], ◌∷◌, ◌++◌, length, Some, None, Option, nat_le, nat_lt}
+use Rattle.std.specs.Fmt.{decimal}
 
 -- the digits '0' to '9'
 abbrev pub is_digit : ℕ → Bool
@@ -26,6 +27,6 @@ unfoldable pub digits_within : ℕ → ℕ → List ℕ
 digits_within zero n = []
 digits_within (suc k) n = cond (nat_lt n 10) ((48 + n) ∷ []) (digits_within k (n / 10) ++ ((48 + n % 10) ∷ []))
 
--- 20 digits write every number below 2 ^ 64
+-- what `{}` writes of a number; of each below 2 ^ 64 that is digits_within 20
 abbrev pub decimal_text : ℕ → List ℕ
-decimal_text n = digits_within 20 n
+decimal_text = decimal

@@ -1,5 +1,6 @@
 -- The words of a line: NAME=VALUE, with a single space between each two.
-use Rattle.std.specs.Prelude.{ℕ, ◌+◌, Bool, true, false, cond, ◌&&◌, List, [], ◌∷◌, ◌++◌, length, take, drop, codes, ◌==◌}
+use Rattle.std.specs.Prelude.{ℕ, ◌+◌, Bool, cond, List, ◌++◌, length, map, take, drop, codes, ◌==◌}
+use Rattle.std.specs.Str.{bytes_eq}
 use Rattle.text.specs.Parts.{count_to, split, left}
 use Rattle.text.specs.declared.word.Word.{Word}
 use Rattle.text.specs.declared.word.Word.TheVariants as word
@@ -30,12 +31,9 @@ meant (word.Key v) = key v.now
 meant (word.Row v) = row v.now
 meant (word.Other w) = other w.now
 
--- whether two texts are the same
-unfoldable pub same : List ℕ → List ℕ → Bool
-same [] [] = true
-same [] (y ∷ ys) = false
-same (x ∷ xs) [] = false
-same (x ∷ xs) (y ∷ ys) = x == y && same xs ys
+-- whether two texts are the same, byte for byte
+abbrev pub same : List ℕ → List ℕ → Bool
+same = bytes_eq
 
 -- the word w of a name and a value
 abbrev pub named : List ℕ → List ℕ → List ℕ → Meant
@@ -49,6 +47,10 @@ named w name value =
 -- the name goes to the first '='; with no '=' a word has no name
 abbrev pub word_of : List ℕ → Meant
 word_of w = cond (count_to 61 w == length w) (other w) (named w (take (count_to 61 w) w) (drop (count_to 61 w + 1) w))
+
+-- what the words mean that a reader has still to give
+abbrev pub meanings_left : Words → List Meant
+meanings_left w = map word_of (words_left w)
 
 -- the bytes that a word was read from
 abbrev pub spelled : Meant → List ℕ

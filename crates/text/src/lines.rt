@@ -1,11 +1,11 @@
-ghost use Rattle.std.specs.Prelude.{◌≡◌, ◌⊎◌, [], ◌∷◌, ◌++◌, drop};
-ghost use Rattle.std.specs.Option.{option_map};
-ghost use Rattle.text.specs.Parts.{lines, lines_left, first, join};
+ghost use Rattle.std.specs.Prelude.{◌≡◌, ◌⊎◌, [], ◌∷◌, ◌++◌};
+ghost use Rattle.std.specs.Iterator.{YieldsFirstRef, item_count};
+ghost use Rattle.text.specs.Parts.{lines, lines_left, join};
 
-use crate::parts::count_to;
+use crate::parts::split_once;
 
 // Gives the lines of an input, one after another, each without its newline. Each is a part of the input, not a copy.
-#[derive(Clone, Copy)]
+#[derive(Clone, Copy, Debug)]
 pub struct Lines<'a> {
     rest: &'a [u8],
 }
@@ -18,22 +18,26 @@ impl<'a> Lines<'a> {
     {
         Lines { rest: input }
     }
+}
 
-    // The next line, or None after the last. A newline at the very end begins no further line.
-    pub fn next(&mut self) -> Option<&'a [u8]>
-        ensures value { option_map (λ x. x.now) result ≡ first (lines_left self.old) }
-        ensures rest { lines_left self.new ≡ drop 1 (lines_left self.old) }
-    {
+// A newline at the very end begins no further line.
+impl<'a> Iterator for Lines<'a> {
+    type Item = &'a [u8];
+
+    ghost next_gives = { YieldsFirstRef lines_left };
+
+    ghost remaining = { item_count lines_left };
+
+    fn next(&mut self) -> Option<&'a [u8]> {
         let text = self.rest;
-        if text.len() == 0 {
+        if text.is_empty() {
             return None;
         }
-        let end = count_to(text, b'\n');
-        if end == text.len() {
-            self.rest = &text[end..];
-            return Some(text);
+        if let Some((line, rest)) = split_once(text, b'\n') {
+            self.rest = rest;
+            return Some(line);
         }
-        self.rest = &text[end + 1..];
-        Some(&text[..end])
+        self.rest = &[];
+        Some(text)
     }
 }

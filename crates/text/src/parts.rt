@@ -1,22 +1,31 @@
-ghost use Rattle.std.specs.Prelude.{◌≡◌, ◌≤◌, length, drop};
-ghost use Rattle.std.specs.Option.{option_map};
-ghost use Rattle.text.specs.Parts.{count_to, split, join, first, left};
+ghost use Rattle.std.specs.Prelude.{◌≡◌, ◌+◌, ◌≤◌, length, take, drop, MatchOption};
+ghost use Rattle.std.specs.Iterator.{YieldsFirstRef, item_count};
+ghost use Rattle.text.specs.Parts.{count_to, split, join, left};
 
 // How many bytes come before the first byte `at`.
 pub fn count_to(text: &[u8], at: u8) -> usize
     ensures bound { result ≤ length text.now }
     ensures value { result ≡ count_to at text.now }
 {
-    for (i, b) in text.iter().enumerate() {
-        if *b == at {
-            return i;
-        }
+    text.iter().position(|b| *b == at).unwrap_or(text.len())
+}
+
+// What stands before the first byte `at` and what follows it, if there is one.
+pub(crate) fn split_once(text: &[u8], at: u8) -> Option<(&[u8], &[u8])>
+    ensures { MatchOption result (count_to at text.now ≡ length text.now) (λ p.
+        (p.0.now ≡ take (count_to at text.now) text.now)
+        × (p.1.now ≡ drop (count_to at text.now + 1) text.now)
+        × (count_to at text.now + 1 ≤ length text.now)) }
+{
+    let end = count_to(text, at);
+    if end == text.len() {
+        return None;
     }
-    text.len()
+    Some((&text[..end], &text[end + 1..]))
 }
 
 // Gives the parts of a text between its bytes `at`, one after another. Each is a part of the text, not a copy.
-#[derive(Clone, Copy)]
+#[derive(Clone, Copy, Debug)]
 pub struct Parts<'a> {
     rest: Option<&'a [u8]>,
     at: u8,
@@ -33,19 +42,22 @@ impl<'a> Parts<'a> {
             at,
         }
     }
+}
 
-    // The next part, or None after the last.
-    pub fn next(&mut self) -> Option<&'a [u8]>
-        ensures value { option_map (λ x. x.now) result ≡ first (left self.old) }
-        ensures rest { left self.new ≡ drop 1 (left self.old) }
-    {
+impl<'a> Iterator for Parts<'a> {
+    type Item = &'a [u8];
+
+    ghost next_gives = { YieldsFirstRef left };
+
+    ghost remaining = { item_count left };
+
+    fn next(&mut self) -> Option<&'a [u8]> {
         let text = self.rest?;
-        let end = count_to(text, self.at);
-        if end == text.len() {
-            self.rest = None;
-            return Some(text);
+        if let Some((part, rest)) = split_once(text, self.at) {
+            self.rest = Some(rest);
+            return Some(part);
         }
-        self.rest = Some(&text[end + 1..]);
-        Some(&text[..end])
+        self.rest = None;
+        Some(text)
     }
 }

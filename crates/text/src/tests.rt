@@ -9,8 +9,7 @@ use std::test::Fail;
 // Reads each part of a line as a number of at most `limit`, and writes it again; a dash where it is none.
 fn reread(heap: Global, line: &[u8], limit: u64) -> Result<Vec<u8>, AllocError> {
     let mut out = Vec::new(heap);
-    let mut parts = Parts::of(line, b' ');
-    while let Some(part) = parts.next() {
+    for part in Parts::of(line, b' ') {
         match decimal(part, limit) {
             Some(n) => push_decimal(&mut out, n)?,
             None => out.push(b'-')?,
@@ -55,8 +54,7 @@ fn kind<'a>(word: Word<'a>) -> (u8, &'a [u8]) {
 // Writes each word of a line as its letter, its bytes and a bar.
 fn kinds(heap: Global, line: &[u8]) -> Result<Vec<u8>, AllocError> {
     let mut out = Vec::new(heap);
-    let mut words = Words::of(line);
-    while let Some(word) = words.next() {
+    for word in Words::of(line) {
         let (letter, bytes) = kind(word);
         out.push(letter)?;
         out.extend_from_slice(bytes)?;
@@ -76,8 +74,7 @@ fn spaces(rt: HostRuntime) -> Result<(), Fail> {
 // Writes each line of an input, and a bar.
 fn barred(heap: Global, input: &[u8]) -> Result<Vec<u8>, AllocError> {
     let mut out = Vec::new(heap);
-    let mut lines = Lines::of(input);
-    while let Some(line) = lines.next() {
+    for line in Lines::of(input) {
         out.extend_from_slice(line)?;
         out.push(b'|')?;
     }

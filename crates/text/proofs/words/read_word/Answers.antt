@@ -1,10 +1,8 @@
-use Rattle.std.proofs.Common.{ap, ◌∙◌}
-use Rattle.text.specs.Words.{spelled}
-use Rattle.text.proofs.Names.{word_cut, word_back}
+use Rattle.std.proofs.Common.{◌≡◌, rules, ap, ◌∙◌}
+use Rattle.text.specs.Words.{meant, word_of, spelled}
+use Rattle.text.proofs.Names.{word_back}
 use Rattle.text.proofs.words.read_word.Goals as goal
 
-pub returns : goal.returns
-returns c =
-    let e = word_cut c.args.word.now c.count_to-mid.result c.count_to-mid.ensures.value c.if-mid-word.false
-    c.name_word.ensures in
-    record { value = e; back = ap spelled e ∙ word_back c.args.word.now }
+pub returns-in-Some-clause-back : goal.returns-in-Some-clause-back
+returns-in-Some-clause-back c =
+    let e : meant c.name_word.result ≡ word_of c.args.word.now = search rules in ap spelled e ∙ word_back c.args.word.now

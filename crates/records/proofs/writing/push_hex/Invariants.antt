@@ -1,6 +1,0 @@
-use Rattle.std.proofs.Common.{◌≡◌, ◌++◌, drop, vec_items}
-use Rattle.records.specs.Writing.{hex_text}
-use Rattle.records.proofs.writing.push_hex.Given as goal
-
-abbrev pub invariant-loop-b : goal.invariant-loop-b
-invariant-loop-b l = vec_items l.out ++ hex_text (drop l.b-index l.bytes) ≡ vec_items l.initial.out ++ hex_text l.bytes
