@@ -4,7 +4,8 @@ ghost use Rattle.filter.specs.Bloom.{places_of, bit_at, with_bit, in_bloom, with
 use crate::Filter;
 
 // The three places of a number, each below 4,096.
-#[derive(Clone, Copy)]
+// Not an array: each has a rule of its own, and a loop over three would need an invariant to say what three lines do.
+#[derive(Clone, Copy, Debug, PartialEq, Eq)]
 pub struct ThreePlaces {
     pub first: usize,
     pub second: usize,
