@@ -8,7 +8,7 @@ pub struct Word32 {
 }
 
 // What a listing offers: the price of a seat in cents, who sells, and how many seats.
-#[derive(Clone, Copy)]
+#[derive(Clone, Copy, Debug, PartialEq, Eq)]
 pub struct ListingRow {
     pub price: u32,
     pub seller: u32,
