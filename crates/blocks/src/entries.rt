@@ -22,17 +22,16 @@ impl<K: Key, R: Packed> BlockStore<K, R> {
         if limit > 1048576 {
             return Err(NewStoreError::Limit);
         }
-        match vec![in heap; 0; limit * 32] {
-            Ok(bytes) => Ok(BlockStore {
-                bytes,
-                limit,
-                of: PhantomData,
-            }),
-            Err(_) => Err(NewStoreError::Memory),
-        }
+        let bytes = vec![in heap; 0; limit * 32]?;
+        Ok(BlockStore {
+            bytes,
+            limit,
+            of: PhantomData,
+        })
     }
 
     // Puts an entry in at the first free place, into the 32 bytes of that place and no others.
+    #[tactic(auto, using(crate::specs::Cut::length_cut, crate::proofs::FirstPlace::prefix_turned))]
     pub fn put_entry(&mut self, key: &K, tag: u32, row: &R) -> Result<(), ColdRefusal>
         ensures answer { result
             ≡ bytes_answer self.old.limit self.old.bytes.items (K.Key.number key.now) tag }
@@ -58,6 +57,7 @@ impl<K: Key, R: Packed> BlockStore<K, R> {
     }
 
     // Clears byte 12 of the place of a key and tag and no other byte, and tells whether there is one.
+    #[tactic(auto, using(crate::specs::Cut::length_cut))]
     pub fn remove_entry(&mut self, key: &K, tag: u32) -> bool
         ensures answer { result
             ≡ ltb (seat_of self.old.limit self.old.bytes.items (K.Key.number key.now) tag)

@@ -23,8 +23,4 @@ impl Key for Listing {
     }
 }
 
-impl OrderedKey for Listing {
-    fn is_below(&self, other: &Self) -> bool {
-        self.number() < other.number()
-    }
-}
+impl OrderedKey for Listing {}
