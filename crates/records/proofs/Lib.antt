@@ -1,4 +1,4 @@
 pub mod Rising
 pub mod Rows
 pub mod Totals
-pub mod Hexes
+pub mod Digits

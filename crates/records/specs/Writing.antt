@@ -1,5 +1,5 @@
 -- The text that answers an archive: a line for each entry, and then their count.
-use Rattle.std.specs.Prelude.{ℕ, ◌+◌, ◌/◌, ◌%◌, cond, List, [], ◌∷◌, ◌++◌, length, Some, None, Option, Ok, Err, codes, nat_lt}
+use Rattle.std.specs.Prelude.{ℕ, ◌+◌, ◌/◌, ◌%◌, Bool, true, false, cond, List, [], ◌∷◌, ◌++◌, length, Some, None, Option, Ok, Err, codes, nat_lt}
 use Rattle.std.specs.List.{flat_map}
 use Rattle.keys.specs.declared.rows.ListingRow.{ListingRow}
 use Rattle.keys.specs.Packing.{packed_listing}
@@ -19,6 +19,11 @@ hex_digits b = hex_digit (b / 16) ∷ (hex_digit (b % 16) ∷ [])
 
 abbrev pub hex_text : List ℕ → List ℕ
 hex_text = flat_map hex_digits
+
+-- 1 for true and 0 for false
+abbrev pub bit_text : Bool → List ℕ
+bit_text true = codes "1"
+bit_text false = codes "0"
 
 -- PRICE,SEATS,SELLER, or none
 abbrev pub found_text : Option ListingRow → List ℕ

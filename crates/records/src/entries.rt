@@ -33,7 +33,7 @@ fn last_after(last: Option<Listing>, entry: &Entry) -> Option<Listing>
 }
 
 // Gives the entries of an archive's text, one for each line.
-#[derive(Clone, Copy)]
+#[derive(Clone, Copy, Debug)]
 pub struct Entries<'a> {
     lines: Lines<'a>,
     last: Option<Listing>,

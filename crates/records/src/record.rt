@@ -3,7 +3,7 @@ use keys::rows::ListingRow;
 use std::error::Error;
 
 // A listing as a text of an archive has it: its key and its row.
-#[derive(Clone, Copy)]
+#[derive(Clone, Copy, Debug, PartialEq, Eq)]
 pub struct Record {
     pub key: Listing,
     pub row: ListingRow,

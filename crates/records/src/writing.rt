@@ -9,7 +9,7 @@ use std::fmt;
 use std::io::Write;
 
 // Bytes, each written as two hexadecimal digits.
-#[derive(Clone, Copy, Debug)]
+#[derive(Clone, Copy, Debug, PartialEq, Eq)]
 pub struct Hex<'a>(pub &'a [u8]);
 
 impl fmt::Display for Hex<'_> {
@@ -24,7 +24,7 @@ impl fmt::Display for Hex<'_> {
 }
 
 // What a find gave, written PRICE,SEATS,SELLER or none.
-#[derive(Clone, Copy)]
+#[derive(Clone, Copy, Debug, PartialEq, Eq)]
 pub struct Found(pub Option<ListingRow>);
 
 impl fmt::Display for Found {

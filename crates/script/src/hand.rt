@@ -4,7 +4,7 @@ ghost use Rattle.script.specs.Hand.{allowed};
 use crate::request::Request;
 
 // The move in hand: none, one that was chosen, or one that was copied too.
-#[derive(Clone, Copy)]
+#[derive(Clone, Copy, Debug, PartialEq, Eq)]
 pub enum InHand {
     Nothing,
     Chosen,
@@ -15,14 +15,11 @@ pub enum InHand {
 pub fn allows(request: &Request, hand: InHand) -> bool
     ensures { result ≡ allowed request.now hand }
 {
-    match (request, hand) {
-        (Request::Choose(_), InHand::Nothing) => true,
-        (Request::Choose(_), _) => false,
-        (Request::Copy, InHand::Chosen) => true,
-        (Request::Copy, _) => false,
-        (Request::Settle, InHand::Copied) => true,
-        (Request::Settle, _) => false,
-        (Request::GiveUp, InHand::Nothing) => false,
-        (_, _) => true,
+    match request {
+        Request::Choose(_) => hand == InHand::Nothing,
+        Request::Copy => hand == InHand::Chosen,
+        Request::Settle => hand == InHand::Copied,
+        Request::GiveUp => hand != InHand::Nothing,
+        _ => true,
     }
 }

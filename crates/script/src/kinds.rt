@@ -1,72 +1,64 @@
-ghost use Rattle.std.specs.Prelude.{◌≡◌};
+ghost use Rattle.std.specs.Prelude.{◌≡◌, Some};
 ghost use Rattle.script.specs.Calls.{name_of, kind_named, kind_of};
 
 use crate::request::{Kind, Request};
-use text::words::is_same;
+use std::fmt;
 
 impl Kind {
+    // All calls.
+    const ALL: [Kind; 12] = [
+        Kind::Begin,
+        Kind::Read,
+        Kind::Put,
+        Kind::Drop,
+        Kind::Commit,
+        Kind::Abandon,
+        Kind::Choose,
+        Kind::Copy,
+        Kind::Settle,
+        Kind::GiveUp,
+        Kind::Sweep,
+        Kind::Collect,
+    ];
+
     // The call's name.
-    pub fn name(self) -> &'static [u8]
+    pub fn name(self) -> &'static str
         ensures { result.now ≡ name_of self }
     {
         match self {
-            Kind::Begin => b"begin",
-            Kind::Read => b"read",
-            Kind::Put => b"put",
-            Kind::Drop => b"drop",
-            Kind::Commit => b"commit",
-            Kind::Abandon => b"abandon",
-            Kind::Choose => b"choose",
-            Kind::Copy => b"copy",
-            Kind::Settle => b"settle",
-            Kind::GiveUp => b"give-up",
-            Kind::Sweep => b"sweep",
-            Kind::Collect => b"collect",
+            Kind::Begin => "begin",
+            Kind::Read => "read",
+            Kind::Put => "put",
+            Kind::Drop => "drop",
+            Kind::Commit => "commit",
+            Kind::Abandon => "abandon",
+            Kind::Choose => "choose",
+            Kind::Copy => "copy",
+            Kind::Settle => "settle",
+            Kind::GiveUp => "give-up",
+            Kind::Sweep => "sweep",
+            Kind::Collect => "collect",
         }
+    }
+
+    // The call of a name.
+    pub(crate) fn named(name: &[u8]) -> Option<Kind>
+        ensures { result ≡ kind_named name.now }
+    {
+        Kind::ALL
+            .iter()
+            .copied()
+            .find(|kind| name == kind.name().as_bytes())
     }
 }
 
-// The call of a name.
-pub(crate) fn call_named(name: &[u8]) -> Option<Kind>
-    ensures { result ≡ kind_named name.now }
-{
-    if is_same(name, b"begin") {
-        return Some(Kind::Begin);
+impl fmt::Display for Kind {
+    ghost output = { λ k. Some (name_of k) };
+
+    fn fmt<W: fmt::Write>(&self, f: &mut fmt::Formatter<W>) -> fmt::Result {
+        let name = self.name();
+        write!(f, "{name}")
     }
-    if is_same(name, b"read") {
-        return Some(Kind::Read);
-    }
-    if is_same(name, b"put") {
-        return Some(Kind::Put);
-    }
-    if is_same(name, b"drop") {
-        return Some(Kind::Drop);
-    }
-    if is_same(name, b"commit") {
-        return Some(Kind::Commit);
-    }
-    if is_same(name, b"abandon") {
-        return Some(Kind::Abandon);
-    }
-    if is_same(name, b"choose") {
-        return Some(Kind::Choose);
-    }
-    if is_same(name, b"copy") {
-        return Some(Kind::Copy);
-    }
-    if is_same(name, b"settle") {
-        return Some(Kind::Settle);
-    }
-    if is_same(name, b"give-up") {
-        return Some(Kind::GiveUp);
-    }
-    if is_same(name, b"sweep") {
-        return Some(Kind::Sweep);
-    }
-    if is_same(name, b"collect") {
-        return Some(Kind::Collect);
-    }
-    None
 }
 
 impl Request {

@@ -2,6 +2,7 @@
 
 pub mod hand;
 pub mod kinds;
+mod operand;
 pub mod reading;
 pub mod reply;
 pub mod request;

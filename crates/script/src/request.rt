@@ -3,7 +3,7 @@ use keys::rows::ListingRow;
 use rules::sheet::Mode;
 
 // The calls that a line may name.
-#[derive(Clone, Copy)]
+#[derive(Clone, Copy, Debug, PartialEq, Eq)]
 pub enum Kind {
     Begin,
     Read,
@@ -19,8 +19,9 @@ pub enum Kind {
     Collect,
 }
 
-// What a line asks for. A session is named by its number; copy, settle and give-up are of the move in hand.
-#[derive(Clone, Copy)]
+// What a line asks for. A session is named by its number; copy, settle and give-up are of the move in hand, so a request has no tag, as
+// a `rules::answers::Call` has.
+#[derive(Clone, Copy, Debug, PartialEq, Eq)]
 pub enum Request {
     Begin(u32, Mode),
     Read(u32, Listing),

@@ -1,15 +1,15 @@
 use crate::hand::{InHand, allows};
 use crate::reading::request;
-use crate::reply::Reply;
+use crate::reply::{Answered, BadRequest, Reply};
 use crate::request::{Kind, Request};
 use crate::writing::push_reply;
 use cold::store::ColdRefusal;
 use keys::listing::Listing;
 use keys::rows::ListingRow;
-use records::writing::push_row;
 use rules::answers::{Answer, Refusal, Swept};
 use rules::sheet::Mode;
 use std::alloc::{AllocError, Global};
+use std::io::Write;
 use std::test::Fail;
 use text::lines::Lines;
 use text::numbers::push_decimal;
@@ -41,7 +41,7 @@ fn push_parts(out: &mut Vec<u8>, request: Request) -> Result<(), AllocError> {
             push_number(out, u64::from(session))?;
             push_number(out, key.id)?;
             out.push(b' ')?;
-            push_row(out, &row)
+            write!(out, "{row}").map_err(|_| AllocError)
         }
         Request::Commit(session) | Request::Abandon(session) => push_number(
             out,
@@ -56,7 +56,7 @@ fn push_parts(out: &mut Vec<u8>, request: Request) -> Result<(), AllocError> {
 fn push_line(out: &mut Vec<u8>, line: &[u8]) -> Result<(), AllocError> {
     match request(line) {
         Some(read) => {
-            out.extend_from_slice(read.kind().name())?;
+            out.extend_from_slice(read.kind().name().as_bytes())?;
             push_parts(out, read)?;
         }
         None => out.push(b'-')?,
@@ -67,8 +67,7 @@ fn push_line(out: &mut Vec<u8>, line: &[u8]) -> Result<(), AllocError> {
 
 fn reread(heap: Global, input: &[u8]) -> Result<Vec<u8>, AllocError> {
     let mut out = Vec::new(heap);
-    let mut lines = Lines::of(input);
-    while let Some(line) = lines.next() {
+    for line in Lines::of(input) {
         push_line(&mut out, line)?;
     }
     Ok(out)
@@ -174,6 +173,11 @@ sweep",
     Ok(())
 }
 
+// What the store tells of a call.
+fn answered(kind: Kind, told: Result<Answer<ListingRow>, Refusal>) -> Reply {
+    Ok(Answered { kind, told })
+}
+
 // The line that a reply is.
 fn written(heap: Global, reply: Reply) -> Result<Vec<u8>, AllocError> {
     let mut out = Vec::new(heap);
@@ -188,38 +192,38 @@ fn replies(rt: HostRuntime) -> Result<(), Fail> {
         seller: 17,
         seats: 2,
     };
-    assert!(rt; written(rt.alloc(), Reply::BadLine)?.as_slice() == b"bad=line\n".as_slice());
-    assert!(rt; written(rt.alloc(), Reply::BadMove)?.as_slice() == b"bad=move\n".as_slice());
+    assert!(rt; written(rt.alloc(), Err(BadRequest::Line))?.as_slice() == b"bad=line\n".as_slice());
+    assert!(rt; written(rt.alloc(), Err(BadRequest::Move))?.as_slice() == b"bad=move\n".as_slice());
     assert!(rt;
-        written(rt.alloc(), Reply::Answered(Kind::Begin, Answer::Done))?.as_slice()
+        written(rt.alloc(), answered(Kind::Begin, Ok(Answer::Done)))?.as_slice()
             == b"ok=begin\n".as_slice()
     );
     assert!(rt;
-        written(rt.alloc(), Reply::Answered(Kind::Commit, Answer::At(2)))?.as_slice()
+        written(rt.alloc(), answered(Kind::Commit, Ok(Answer::At(2))))?.as_slice()
             == b"ok=commit at=2\n".as_slice()
     );
     assert!(rt;
-        written(rt.alloc(), Reply::Answered(Kind::Choose, Answer::Tag(1)))?.as_slice()
+        written(rt.alloc(), answered(Kind::Choose, Ok(Answer::Tag(1))))?.as_slice()
             == b"ok=choose tag=1\n".as_slice()
     );
     assert!(rt;
         written(
             rt.alloc(),
-            Reply::Answered(Kind::Read, Answer::Row(Some(row))),
+            answered(Kind::Read, Ok(Answer::Row(Some(row)))),
         )?
         .as_slice()
             == b"ok=read v=4500,2,17\n".as_slice()
     );
     assert!(rt;
-        written(rt.alloc(), Reply::Answered(Kind::Read, Answer::Row(None)))?.as_slice()
+        written(rt.alloc(), answered(Kind::Read, Ok(Answer::Row(None))))?.as_slice()
             == b"ok=read v=none\n".as_slice()
     );
     assert!(rt;
-        written(rt.alloc(), Reply::Answered(Kind::Drop, Answer::Was(false)))?.as_slice()
+        written(rt.alloc(), answered(Kind::Drop, Ok(Answer::Was(false))))?.as_slice()
             == b"ok=drop was=0\n".as_slice()
     );
     assert!(rt;
-        written(rt.alloc(), Reply::Answered(Kind::Drop, Answer::Was(true)))?.as_slice()
+        written(rt.alloc(), answered(Kind::Drop, Ok(Answer::Was(true))))?.as_slice()
             == b"ok=drop was=1\n".as_slice()
     );
     Ok(())
@@ -231,7 +235,7 @@ fn more_replies(rt: HostRuntime) -> Result<(), Fail> {
     assert!(rt;
         written(
             rt.alloc(),
-            Reply::Answered(Kind::Sweep, Answer::Swept(Swept::Gone)),
+            answered(Kind::Sweep, Ok(Answer::Swept(Swept::Gone))),
         )?
         .as_slice()
             == b"ok=sweep did=gone\n".as_slice()
@@ -239,7 +243,7 @@ fn more_replies(rt: HostRuntime) -> Result<(), Fail> {
     assert!(rt;
         written(
             rt.alloc(),
-            Reply::Answered(Kind::Sweep, Answer::Swept(Swept::Emptied)),
+            answered(Kind::Sweep, Ok(Answer::Swept(Swept::Emptied))),
         )?
         .as_slice()
             == b"ok=sweep did=emptied\n".as_slice()
@@ -247,38 +251,29 @@ fn more_replies(rt: HostRuntime) -> Result<(), Fail> {
     assert!(rt;
         written(
             rt.alloc(),
-            Reply::Answered(Kind::Sweep, Answer::Swept(Swept::NoneDue)),
+            answered(Kind::Sweep, Ok(Answer::Swept(Swept::NoneDue))),
         )?
         .as_slice()
             == b"ok=sweep did=none\n".as_slice()
     );
     assert!(rt;
-        written(rt.alloc(), Reply::Answered(Kind::GiveUp, Answer::Done))?.as_slice()
+        written(rt.alloc(), answered(Kind::GiveUp, Ok(Answer::Done)))?.as_slice()
             == b"ok=give-up\n".as_slice()
     );
     assert!(rt;
         written(
             rt.alloc(),
-            Reply::Answered(Kind::Commit, Answer::At(4294967295)),
+            answered(Kind::Commit, Ok(Answer::At(4294967295))),
         )?
         .as_slice()
             == b"ok=commit at=4294967295\n".as_slice()
     );
     assert!(rt;
-        written(
-            rt.alloc(),
-            Reply::Answered(Kind::Begin, Answer::Refused(Refusal::NoSession)),
-        )?
-        .as_slice()
+        written(rt.alloc(), answered(Kind::Begin, Err(Refusal::NoSession)),)?.as_slice()
             == b"no=2\n".as_slice()
     );
     assert!(rt;
-        written(
-            rt.alloc(),
-            Reply::Answered(Kind::Copy, Answer::Refused(full)),
-        )?
-        .as_slice()
-            == b"no=15\n".as_slice()
+        written(rt.alloc(), answered(Kind::Copy, Err(full)),)?.as_slice() == b"no=15\n".as_slice()
     );
     Ok(())
 }

@@ -1,7 +1,7 @@
 use Rattle.std.proofs.Common.{◌-◌, ◌^◌, false, [], get_or, rules}
 use Rattle.std.specs.Fmt.{HasWritten, padded_integral, format_spec, digits}
 use Rattle.std.proofs.Output.{has_written_append, has_written_of_eq}
-use Rattle.records.proofs.Hexes.{hex_more}
+use Rattle.records.proofs.Digits.{hex_more}
 use Rattle.records.proofs.writing.HexDisplay.fmt.Goals as goal
 
 pub loop-b-init : goal.loop-b-init
