@@ -1,11 +1,3 @@
-// Who reads, at which time, and the number of the key.
-#[derive(Clone, Copy)]
-pub struct Reader {
-    pub session: u32,
-    pub time: u32,
-    pub number: u64,
-}
-
 // Where a version stands: in a slot of the hot table, or in the cold store under a tag.
 #[derive(Clone, Copy)]
 pub enum Place {
