@@ -1,4 +1,4 @@
-pub mod Hitting
+pub mod Placing
 pub mod Lookups
 pub mod Undone
 pub mod Walking

@@ -1,5 +1,5 @@
 -- A lookup's answer against the rule.
-use Rattle.std.proofs.Common.{◌≡◌, ℕ, true, false, cond, is_some, Some, None, Option, sym, refl, ap, ◌∙◌}
+use Rattle.std.proofs.Common.{◌≡◌, ℕ, true, false, cond, is_some, Some, None, Option, option_map, sym, refl, ap, ◌∙◌}
 use Rattle.std.proofs.lemmas.Bool.{cond-true, cond-false}
 use Rattle.slots.specs.declared.hit.Hit.{Hit}
 use Rattle.slots.specs.Lists.{hit, first}
@@ -11,12 +11,12 @@ use Rattle.rules.specs.Looking as rule
 use Rattle.rules.specs.Looking.{hot_sees, cold_sees, walk, hot_first, looked, row_of}
 use Rattle.scan.specs.declared.looked.Place.TheVariants.{Hot}
 use Rattle.scan.specs.declared.looked.Looked.{Looked}
-use Rattle.scan.specs.Places.{place}
-use Rattle.scan.specs.Told.{seen_at, looked_at, row_in}
-use Rattle.scan.proofs.Hitting.{hit_place}
+use Rattle.std.specs.List.{position_or_len}
+use Rattle.scan.specs.Told.{seen_at, looked_at}
+use Rattle.scan.proofs.Placing.{hit_place}
 
 -- the row that is told is the rule's, and one is told where the rule has one
-pub row_told : {K R : Type 0} (i : ℕ) (v : rule.Seen K R) → row_in (seen_at i v) ≡ row_of v
+pub row_told : {K R : Type 0} (i : ℕ) (v : rule.Seen K R) → option_map (λ v. v.row) (seen_at i v) ≡ row_of v
 row_told i (rule.hot_one h) = refl
 row_told i (rule.cold_one c) = refl
 row_told i rule.nothing = refl
@@ -37,11 +37,11 @@ module _ {K R : Type 0} (number : K → ℕ) (σ : Store K R) (s t k : ℕ) wher
   -- a hot row is seen
   pub from_hot : (h : Hit (HotRow K R)) → hit (hot_sees number s t k) σ.hot ≡ Some h
       → record { seen = Some (record { row = h.it.row; place = Hot h.at }); finds = 0 }
-      ≡ looked_at (place (hot_sees number s t k) σ.hot) (looked number σ s t k)
+      ≡ looked_at (position_or_len (hot_sees number s t k) σ.hot) (looked number σ s t k)
   from_hot h q =
       let p = hot_sees number s t k in
       ap (λ i. looked_at i (hot_first (Some h.it) below)) (hit_place p σ.hot h q)
-      ∙ ap (looked_at (place p σ.hot)) (at_hot (Some h.it) (hit_first p σ.hot h q))
+      ∙ ap (looked_at (position_or_len p σ.hot)) (at_hot (Some h.it) (hit_first p σ.hot h q))
 
   -- none is, and the filter does not admit the key
   pub from_none : (i : ℕ) → hit (hot_sees number s t k) σ.hot ≡ None → false ≡ σ.admits k

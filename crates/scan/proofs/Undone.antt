@@ -1,9 +1,8 @@
 -- Undoing in two steps is undoing as the rules say.
 use Rattle.std.proofs.Common.{◌≡◌, ℕ, Bool, true, false, cond, not, ◌||◌, List, [], ◌∷◌, map, is_some, Some, None, Option, sym, refl, ap, inl, inr}
-use Rattle.std.proofs.lemmas.Bool.{cases_Bool, both_ways}
+use Rattle.std.proofs.lemmas.Bool.{cases_Bool}
 use Rattle.slots.specs.Lists.{each, kept, one}
-use Rattle.rules.specs.declared.tables.End.{End}
-use Rattle.rules.specs.declared.tables.End.TheVariants as e
+use Rattle.rules.specs.declared.times.Moment.{Moment}
 use Rattle.rules.specs.declared.tables.HotRow.{HotRow}
 use Rattle.rules.specs.declared.tables.Kind.{Kind}
 use Rattle.rules.specs.declared.tables.Notice.{Notice}
@@ -31,15 +30,13 @@ rows_undone s xs = each_is_kept (undo_row s) (reopen_row s) (row_stays s) (λ h.
     go h false = refl
 
 -- an end that the session did not mark stays; one that it did is open again
-reopen_other : (s : ℕ) (end : End) → end_marked end s ≡ false → reopen s end ≡ end
-reopen_other s e.Open h = refl
-reopen_other s (e.Stamp n) h = refl
-reopen_other s (e.Mark m) h = ap (λ b. cond b e.Open (e.Mark m)) h
+reopen_other : (s : ℕ) (end : Option Moment) → end_marked end s ≡ false → reopen s end ≡ end
+reopen_other s None h = refl
+reopen_other s (Some x) h = ap (λ b. cond b None (Some x)) h
 
-reopen_own : (s : ℕ) (end : End) → end_marked end s ≡ true → reopen s end ≡ e.Open
-reopen_own s e.Open h = refl
-reopen_own s (e.Stamp n) h = absurd (both_ways false refl h)
-reopen_own s (e.Mark m) h = ap (λ b. cond b e.Open (e.Mark m)) h
+reopen_own : (s : ℕ) (end : Option Moment) → end_marked end s ≡ true → reopen s end ≡ None
+reopen_own s None h = refl
+reopen_own s (Some x) h = ap (λ b. cond b None (Some x)) h
 
 module _ {K : Type 0} (s : ℕ) where
   notice_undone : (n : Notice K) → undo_notice s n ≡ cond (notice_stays s n) (one (reopen_notice s n)) []

@@ -1,4 +1,3 @@
 pub mod Bare
-pub mod Places
 pub mod Told
 pub mod Undoing

@@ -13,7 +13,3 @@ seen_at i rule.nothing = None
 
 abbrev pub looked_at : {K R : Type 0} → ℕ → rule.Looked K R → Looked R
 looked_at i l = record { seen = seen_at i l.seen; finds = l.finds }
-
-abbrev pub row_in : {R : Type 0} → Option (Seen R) → Option R
-row_in None = None
-row_in (Some v) = Some v.row

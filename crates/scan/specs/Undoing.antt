@@ -1,6 +1,6 @@
 -- Undoing a session in two steps: what stays, and what becomes of it.
-use Rattle.std.specs.Prelude.{ℕ, Bool, cond, not, ◌||◌, is_some}
-use Rattle.rules.specs.declared.tables.End.{End}
+use Rattle.std.specs.Prelude.{ℕ, Bool, cond, not, ◌||◌, is_some, Option}
+use Rattle.rules.specs.declared.times.Moment.{Moment}
 use Rattle.rules.specs.declared.tables.HotRow.{HotRow}
 use Rattle.rules.specs.declared.tables.Kind.{Kind}
 use Rattle.rules.specs.declared.tables.Notice.{Notice}
@@ -17,7 +17,7 @@ module _ {K R : Type 0} where
   reopen_row s h = record { key = h.key; row = h.row; begin = h.begin; end = reopen s h.end; mark = h.mark }
 
 -- the kind where the session's end is undone
-abbrev pub reopen_kind : ℕ → End → Kind → Kind
+abbrev pub reopen_kind : ℕ → Option Moment → Kind → Kind
 reopen_kind s end kind = cond (end_marked end s) (kind_or kind (becomes kind Abandon)) kind
 
 module _ {K : Type 0} where

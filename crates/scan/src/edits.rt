@@ -1,107 +1,76 @@
 ghost use Rattle.std.specs.Prelude.{◌≡◌};
-ghost use Rattle.rules.specs.Selling.{kind_or, end_row, end_notice, with_row, stamp_row, stamp_notice};
-ghost use Rattle.scan.specs.Undoing.{reopen_row, reopen_notice, reopen_kind};
+ghost use Rattle.rules.specs.Selling.{end_row, end_notice, stamp_row, stamp_notice};
+ghost use Rattle.scan.specs.Undoing.{row_stays, notice_stays, reopen_row, reopen_notice};
 
-use crate::times::{is_end_marked, reopened, stamped_begin, stamped_end};
-use rules::notices::{NoticeEvent, kind_after};
-use rules::tables::{End, HotRow, Kind, MoveMark, Notice};
-use slots::change::Edit;
+use rules::notices::NoticeEvent;
+use rules::tables::{HotRow, MoveMark, Notice};
+use rules::times::Moment;
 
-// Ends a version with a session's mark.
-#[derive(Clone, Copy)]
-pub struct EndBy(pub u32);
-
-impl<K, R> Edit<HotRow<K, R>> for EndBy {
-    ghost edited = { λ t h. end_row t.0 h };
-
-    fn edit(&self, x: &mut HotRow<K, R>) {
-        x.end = End::Mark(self.0);
-        x.mark = MoveMark::Unmoved;
-    }
-}
-
-// The kind after an event, where the event takes no notice out.
-fn kind_or(kind: Kind, after: Option<Kind>) -> Kind
-    ensures { result ≡ kind_or kind after }
+// Ends a version with the session's mark.
+pub fn end_row<K, R>(row: &mut HotRow<K, R>, session: u32)
+    ensures { row.new ≡ end_row session row.old }
 {
-    match after {
-        None => kind,
-        Some(new) => new,
-    }
+    row.end = Some(Moment::Mark(session));
+    row.mark = MoveMark::Unmoved;
 }
 
-impl<K> Edit<Notice<K>> for EndBy {
-    ghost edited = { λ t n. end_notice t.0 n };
-
-    fn edit(&self, x: &mut Notice<K>) {
-        x.kind = kind_or(x.kind, kind_after(x.kind, NoticeEvent::Ending));
-        x.end = End::Mark(self.0);
-    }
-}
-
-// Puts another row into a version.
-#[derive(Clone, Copy)]
-pub struct SetRow<R>(pub R);
-
-impl<K, R: Copy> Edit<HotRow<K, R>> for SetRow<R> {
-    ghost edited = { λ t h. with_row t.0 h };
-
-    fn edit(&self, x: &mut HotRow<K, R>) {
-        x.row = self.0;
-    }
-}
-
-// Turns a session's marks into a stamp.
-#[derive(Clone, Copy)]
-pub struct StampAs {
-    pub session: u32,
-    pub stamp: u32,
-}
-
-impl<K, R> Edit<HotRow<K, R>> for StampAs {
-    ghost edited = { λ t h. stamp_row t.session t.stamp h };
-
-    fn edit(&self, x: &mut HotRow<K, R>) {
-        x.begin = stamped_begin(x.begin, self.session, self.stamp);
-        x.end = stamped_end(x.end, self.session, self.stamp);
-    }
-}
-
-impl<K> Edit<Notice<K>> for StampAs {
-    ghost edited = { λ t n. stamp_notice t.session t.stamp n };
-
-    fn edit(&self, x: &mut Notice<K>) {
-        x.end = stamped_end(x.end, self.session, self.stamp);
-    }
-}
-
-// Opens again what a session ended, among what stays when it is undone.
-#[derive(Clone, Copy)]
-pub struct Reopen(pub u32);
-
-impl<K, R> Edit<HotRow<K, R>> for Reopen {
-    ghost edited = { λ t h. reopen_row t.0 h };
-
-    fn edit(&self, x: &mut HotRow<K, R>) {
-        x.end = reopened(x.end, self.0);
-    }
-}
-
-// The kind of a notice that stays.
-fn reopened_kind(kind: Kind, end: End, session: u32) -> Kind
-    ensures { result ≡ reopen_kind session end kind }
+// Ends a cold entry by its notice, with the session's mark.
+pub fn end_notice<K>(notice: &mut Notice<K>, session: u32)
+    ensures { notice.new ≡ end_notice session notice.old }
 {
-    if !is_end_marked(end, session) {
-        return kind;
-    }
-    kind_or(kind, kind_after(kind, NoticeEvent::Abandon))
+    notice.kind = notice
+        .kind
+        .after(NoticeEvent::Ending)
+        .unwrap_or(notice.kind);
+    notice.end = Some(Moment::Mark(session));
 }
 
-impl<K> Edit<Notice<K>> for Reopen {
-    ghost edited = { λ t n. reopen_notice t.0 n };
+// Turns the session's marks into a stamp.
+pub fn stamp_row<K, R>(row: &mut HotRow<K, R>, session: u32, stamp: u32)
+    ensures { row.new ≡ stamp_row session stamp row.old }
+{
+    row.begin = row.begin.stamped(session, stamp);
+    row.end = row.end.map(|end| end.stamped(session, stamp));
+}
 
-    fn edit(&self, x: &mut Notice<K>) {
-        x.kind = reopened_kind(x.kind, x.end, self.0);
-        x.end = reopened(x.end, self.0);
+// Turns the session's mark into a stamp.
+pub fn stamp_notice<K>(notice: &mut Notice<K>, session: u32, stamp: u32)
+    ensures { notice.new ≡ stamp_notice session stamp notice.old }
+{
+    notice.end = notice.end.map(|end| end.stamped(session, stamp));
+}
+
+// Whether a row stays when the session is undone: one that it did not begin.
+pub fn row_stays<K, R>(row: &HotRow<K, R>, session: u32) -> bool
+    ensures { result ≡ row_stays session row.now }
+{
+    !row.begin.is_mark_of(session)
+}
+
+// Whether a notice stays then: one that the session did not add.
+pub fn notice_stays<K>(notice: &Notice<K>, session: u32) -> bool
+    ensures { result ≡ notice_stays session notice.now }
+{
+    !notice.end.is_some_and(|end| end.is_mark_of(session))
+        || notice.kind.after(NoticeEvent::Abandon).is_some()
+}
+
+// Opens a row that stays, where the session ended it.
+pub fn reopen_row<K, R>(row: &mut HotRow<K, R>, session: u32)
+    ensures { row.new ≡ reopen_row session row.old }
+{
+    row.end = row.end.filter(|end| !end.is_mark_of(session));
+}
+
+// Opens the entry of a notice that stays, where the session ended it.
+pub fn reopen_notice<K>(notice: &mut Notice<K>, session: u32)
+    ensures { notice.new ≡ reopen_notice session notice.old }
+{
+    if notice.end.is_some_and(|end| end.is_mark_of(session)) {
+        notice.kind = notice
+            .kind
+            .after(NoticeEvent::Abandon)
+            .unwrap_or(notice.kind);
+        notice.end = None;
     }
 }

@@ -1,10 +1,4 @@
-// Who reads, at which time, and the number of the key.
-#[derive(Clone, Copy)]
-pub struct Reader {
-    pub session: u32,
-    pub time: u32,
-    pub number: u64,
-}
+ghost use Rattle.std.specs.Prelude.{◌≡◌, option_map};
 
 // Where a version stands: in a slot of the hot table, or in the cold store under a tag.
 #[derive(Clone, Copy)]
@@ -25,4 +19,13 @@ pub struct Seen<R> {
 pub struct Looked<R> {
     pub seen: Option<Seen<R>>,
     pub finds: u32,
+}
+
+impl<R: Copy> Looked<R> {
+    // The row of what was seen.
+    pub fn row(&self) -> Option<R>
+        ensures { result ≡ option_map (λ v. v.row) self.now.seen }
+    {
+        self.seen.map(|version| version.row)
+    }
 }

@@ -1,6 +1,6 @@
 -- How drop leaves, each way against the rule.
-use Rattle.std.proofs.Common.{◌≡◌, ℕ, Bool, true, false, cond, ◌&&◌, leb, List, [], ◌++◌, length, take, is_some, Some, None, Ok, Err, Result, sym, refl, ap, ◌∙◌}
-use Rattle.std.specs.List.{remove}
+use Rattle.std.proofs.Common.{◌≡◌, ℕ, Bool, true, false, cond, ◌&&◌, leb, List, [], ◌++◌, length, take, is_some, Some, None, Ok, Err, Result, sym, refl, ap, ◌∙◌, position, Option}
+use Rattle.std.specs.List.{remove, position_or_len}
 use Rattle.std.proofs.lemmas.Bool.{cond-true, cond-false}
 use Rattle.slots.specs.Lists.{any, one, at_first, appended}
 use Rattle.cold.specs.Cold.{Entry}
@@ -18,10 +18,9 @@ use Rattle.rules.specs.Outcomes.{Outcome, served, refused, untold}
 use Rattle.rules.specs.Looking.{hot_sees, conflict, looked, row_of}
 use Rattle.rules.specs.Selling.{hot_own, new_line, noted, drop_own, drop_seen, drop_rule}
 use Rattle.scan.specs.Bare.{bare}
-use Rattle.scan.specs.Places.{place, place_if}
 use Rattle.scan.specs.Told.{looked_at}
 use Rattle.scan.specs.declared.looked.Looked.{Looked}
-use Rattle.scan.proofs.Hitting.{place_removed, placed_some, placed_none}
+use Rattle.scan.proofs.Placing.{place_removed, placed_some, placed_none}
 use Rattle.scan.proofs.Lookups.{any_told}
 use Rattle.seller.specs.declared.ending.Ending.{Ending}
 use Rattle.seller.specs.Admitted.{admitted}
@@ -84,19 +83,19 @@ module _ {K R : Type 0} (number : K → ℕ) (sheet : Sheet) (hot : List (HotRow
             → lines ≡ cond (new_line number σ r.mode s (number key)) (σ.ledger ++ one (record { session = s; key = key })) σ.ledger
         noted_lines e = lines_are number sheet hot memo ledger es limit admits s key r q note new_is h e
 
-        pub dropped_own : (i : ℕ) → Some i ≡ place_if (hot_own number s n) σ.hot → {rows : List (HotRow K R)} → rows ≡ remove σ.hot i
+        pub dropped_own : (i : ℕ) → Some i ≡ position (hot_own number s n) σ.hot → {rows : List (HotRow K R)} → rows ≡ remove σ.hot i
             → {lines : List (Line K)} → lines ≡ lines_after note
             → served (answer.Was true) (with_tables (untold σ) rows σ.memo lines) ≡ drop_rule number (lent hot memo ledger) σ s key
         dropped_own i e {rows} f {lines} l =
             let own = hot_own number s (number key) in
-            let at = placed_some own σ.hot i (e ∙ ap (λ k. place_if (hot_own number s k) σ.hot) told) in
+            let at = placed_some own σ.hot i (e ∙ ap (λ k. position (hot_own number s k) σ.hot) told) in
             let rows_are : rows ≡ at_first own (λ x. []) σ.hot = f ∙ ap (remove σ.hot) at.1 ∙ place_removed own σ.hot in
             ap (served (answer.Was true)) (same_tables (untold σ) rows_are refl (noted_lines l)) ∙ sym (cond-true _ _ _ at.0) ∙ lined
 
-        module _ (o : None ≡ place_if (hot_own number s n) σ.hot) (l : Looked R)
-            (e : l ≡ looked_at (place (hot_sees number s r.time (number key)) σ.hot) (looked number σ s r.time (number key)))
+        module _ (o : None ≡ position (hot_own number s n) σ.hot) (l : Looked R)
+            (e : l ≡ looked_at (position_or_len (hot_sees number s r.time (number key)) σ.hot) (looked number σ s r.time (number key)))
             (full : Bool) (f : full ≡ leb sheet.memo_length sheet.memo_used) where
-          seen : {x : Result Ending Refusal} → x ≡ ending_of number full σ.memo n l.seen
+          seen : {x : Result (Option Ending) Refusal} → x ≡ ending_of number full σ.memo n l.seen
               → by_ending number (with_finds σ l.finds) s r.time key (λ e. refused e (untold σ))
               (λ τ. served (answer.Was (is_some (row_of (looked number σ s r.time (number key)).seen))) (noted number τ r.mode s key)) x
               ≡ drop_rule number (lent hot memo ledger) σ s key
@@ -105,13 +104,13 @@ module _ {K R : Type 0} (number : K → ℕ) (sheet : Sheet) (hot : List (HotRow
               ends_looked number σ s r.time key (λ e. refused e (untold σ))
               (λ τ. served (answer.Was (is_some (row_of (looked number σ s r.time (number key)).seen))) (noted number τ r.mode s key))
               n told l e full (f ∙ ap (leb sheet.memo_length) (sym (entered sheet hot memo ledger s q).memo_count)) z
-              ∙ sym (cond-false _ _ _ (placed_none own σ.hot (o ∙ ap (λ k. place_if (hot_own number s k) σ.hot) told))) ∙ lined
+              ∙ sym (cond-false _ _ _ (placed_none own σ.hot (o ∙ ap (λ k. position (hot_own number s k) σ.hot) told))) ∙ lined
 
           pub drop_unnoted : {x : Refusal} → Err x ≡ ending_of number full σ.memo n l.seen
               → refused x (untold σ) ≡ drop_rule number (lent hot memo ledger) σ s key
           drop_unnoted z = seen z
 
-          pub drop_served : {x : Ending} → Ok x ≡ ending_of number full σ.memo n l.seen
+          pub drop_served : {x : Option Ending} → Ok x ≡ ending_of number full σ.memo n l.seen
               → {was : Bool} → was ≡ is_some l.seen
               → {ended : List (HotRow K R)} → ended ≡ ended_hot x s hot
               → {notices : List (Notice K)} → notices ≡ ended_memo (length memo) sheet.memo_used x s key σ.memo
@@ -121,7 +120,7 @@ module _ {K R : Type 0} (number : K → ℕ) (sheet : Sheet) (hot : List (HotRow
           drop_served {x} z {was} w {ended} a {notices} b {lines} d =
               let L = looked number σ s r.time (number key) in
               let was_is : was ≡ is_some (row_of L.seen) =
-              w ∙ ap (λ (y : Looked R). is_some y.seen) e ∙ any_told (place (hot_sees number s r.time (number key)) σ.hot) L.seen in
+              w ∙ ap (λ (y : Looked R). is_some y.seen) e ∙ any_told (position_or_len (hot_sees number s r.time (number key)) σ.hot) L.seen in
               ap (λ y. served (answer.Was y) (with_tables (with_finds σ l.finds) (take sheet.hot_used ended) notices lines)) was_is
               ∙ ap (served (answer.Was (is_some (row_of L.seen))))
               (same_tables (with_finds σ l.finds) (ap (take sheet.hot_used) a ∙ take_ended x s sheet.hot_used hot)

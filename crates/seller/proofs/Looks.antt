@@ -1,5 +1,5 @@
 -- The ledger's lines, and how read leaves, each way against the rule.
-use Rattle.std.proofs.Common.{◌≡◌, ℕ, ◌≤◌, Bool, true, false, cond, ◌&&◌, leb, List, ◌++◌, length, take, Ok, Err, Option, sym, refl, ap, ◌∙◌}
+use Rattle.std.proofs.Common.{◌≡◌, ℕ, ◌≤◌, Bool, true, false, cond, ◌&&◌, leb, List, ◌++◌, length, take, Ok, Err, Option, sym, refl, ap, ◌∙◌, option_map}
 use Rattle.std.proofs.lemmas.Bool.{cond-true, cond-false, leb-false}
 use Rattle.slots.specs.Lists.{one, appended, count_with}
 use Rattle.slots.proofs.Slots.{appended_more}
@@ -18,7 +18,7 @@ use Rattle.rules.specs.Outcomes.{Outcome, served, refused, untold}
 use Rattle.rules.specs.Looking.{looked, row_of}
 use Rattle.rules.specs.Selling.{new_line, noted, read_rule}
 use Rattle.scan.specs.Bare.{bare}
-use Rattle.scan.specs.Told.{looked_at, row_in}
+use Rattle.scan.specs.Told.{looked_at}
 use Rattle.scan.specs.declared.looked.Looked.{Looked}
 use Rattle.scan.proofs.Lookups.{row_told}
 use Rattle.seller.specs.Admitted.{admitted}
@@ -72,14 +72,14 @@ module _ {K R : Type 0} (number : K → ℕ) (sheet : Sheet) (hot : List (HotRow
           e ∙ lined note (length ledger) sheet.ledger_used _ _ (h ∙ ap (λ n. note && leb n sheet.ledger_used) (sym long))
           ∙ ap (λ b. cond b (σ.ledger ++ one (record { session = s; key = key })) σ.ledger) new
 
-      pub read_served : (i : ℕ) (l : Looked R) → l ≡ looked_at i (looked number σ s r.time (number key)) → {o : Option R} → o ≡ row_in l.seen
+      pub read_served : (i : ℕ) (l : Looked R) → l ≡ looked_at i (looked number σ s r.time (number key)) → {o : Option R} → o ≡ option_map (λ v. v.row) l.seen
           → {lines : List (Line K)}
           → lines ≡ cond note (appended (length ledger) sheet.ledger_used (record { session = s; key = key }) (take sheet.ledger_used ledger))
           (take sheet.ledger_used ledger)
           → served (answer.Row o) (with_ledger (with_finds σ l.finds) lines) ≡ read_rule number (lent hot memo ledger) σ s key
       read_served i l e {o} f {lines} g =
           let row : o ≡ row_of (looked number σ s r.time (number key)).seen =
-          f ∙ ap (λ (z : Looked R). row_in z.seen) e ∙ row_told i (looked number σ s r.time (number key)).seen in
+          f ∙ ap (λ (z : Looked R). option_map (λ v. v.row) z.seen) e ∙ row_told i (looked number σ s r.time (number key)).seen in
           ap (λ z. served (answer.Row z) (with_ledger (with_finds σ l.finds) lines)) row
           ∙ ap (λ (z : Looked R). served (answer.Row (row_of (looked number σ s r.time (number key)).seen)) (with_ledger (with_finds σ z.finds) lines)) e
           ∙ ap (λ z. served (answer.Row (row_of (looked number σ s r.time (number key)).seen))

@@ -1,5 +1,5 @@
 -- How put leaves, each way against the rule.
-use Rattle.std.proofs.Common.{◌≡◌, ℕ, ◌<◌, ◌≤◌, Bool, true, false, cond, leb, List, ◌++◌, length, take, Some, None, Ok, Err, Result, sym, refl, ap, ◌∙◌, arith}
+use Rattle.std.proofs.Common.{◌≡◌, ℕ, ◌<◌, ◌≤◌, Bool, true, false, cond, leb, List, ◌++◌, length, take, Some, None, Ok, Err, Result, sym, refl, ap, ◌∙◌, arith, position, Option}
 use Rattle.std.proofs.lemmas.Bool.{cond-true, cond-false, le-leb, lt-leb}
 use Rattle.slots.specs.Lists.{any, one, at_first, changed_at, appended}
 use Rattle.slots.proofs.Slots.{take_changed, appended_more}
@@ -18,10 +18,10 @@ use Rattle.rules.specs.Outcomes.{Outcome, served, refused, untold}
 use Rattle.rules.specs.Looking.{hot_sees, conflict, looked}
 use Rattle.rules.specs.Selling.{hot_own, with_row, new_row, push_hot, replace_own, put_seen, put_rule}
 use Rattle.scan.specs.Bare.{bare}
-use Rattle.scan.specs.Places.{place, place_if}
+use Rattle.std.specs.List.{position_or_len}
 use Rattle.scan.specs.Told.{looked_at}
 use Rattle.scan.specs.declared.looked.Looked.{Looked}
-use Rattle.scan.proofs.Hitting.{place_changed, placed_some, placed_none}
+use Rattle.scan.proofs.Placing.{place_changed, placed_some, placed_none}
 use Rattle.seller.specs.declared.ending.Ending.{Ending}
 use Rattle.seller.specs.Admitted.{admitted}
 use Rattle.seller.specs.Ending.{ending_of, ended_hot, ended_memo}
@@ -58,21 +58,21 @@ module _ {K R : Type 0} (number : K → ℕ) (sheet : Sheet) (hot : List (HotRow
       apart =
           sym (cond-false _ _ _ (sym (c ∙ ap (conflict number σ s r.time) told))) ∙ is_admitted (lent hot memo ledger) σ (untold σ) s puts q
 
-      pub put_own : (i : ℕ) → Some i ≡ place_if (hot_own number s n) σ.hot → {rows : List (HotRow K R)} → rows ≡ changed_at i (with_row row) hot
+      pub put_own : (i : ℕ) → Some i ≡ position (hot_own number s n) σ.hot → {rows : List (HotRow K R)} → rows ≡ changed_at i (with_row row) hot
           → served answer.Done (with_hot (untold σ) (take sheet.hot_used rows)) ≡ put_rule number (lent hot memo ledger) σ s key row
       put_own i e {rows} f =
           let own = hot_own number s (number key) in
-          let at = placed_some own σ.hot i (e ∙ ap (λ k. place_if (hot_own number s k) σ.hot) told) in
+          let at = placed_some own σ.hot i (e ∙ ap (λ k. position (hot_own number s k) σ.hot) told) in
           let list : take sheet.hot_used rows ≡ at_first own (λ x. one (with_row row x)) σ.hot =
           ap (take sheet.hot_used) f ∙ take_changed (with_row row) sheet.hot_used i hot
           ∙ ap (λ j. changed_at j (with_row row) σ.hot) at.1 ∙ place_changed own (with_row row) σ.hot in
           ap (λ z. served answer.Done (with_hot (untold σ) z)) list ∙ sym (cond-true _ _ _ at.0) ∙ apart
 
-      module _ (o : None ≡ place_if (hot_own number s n) σ.hot) where
+      module _ (o : None ≡ position (hot_own number s n) σ.hot) where
         unowned : puts_new r.time ≡ put_rule number (lent hot memo ledger) σ s key row
         unowned =
             let own = hot_own number s (number key) in
-            sym (cond-false _ _ _ (placed_none own σ.hot (o ∙ ap (λ k. place_if (hot_own number s k) σ.hot) told))) ∙ apart
+            sym (cond-false _ _ _ (placed_none own σ.hot (o ∙ ap (λ k. position (hot_own number s k) σ.hot) told))) ∙ apart
 
         pub put_full : sheet.hot_length ≤ sheet.hot_used
             → refused refusal.HotFull (untold σ) ≡ put_rule number (lent hot memo ledger) σ s key row
@@ -81,14 +81,14 @@ module _ {K R : Type 0} (number : K → ℕ) (sheet : Sheet) (hot : List (HotRow
             sym (cond-true _ _ _ (le-leb sheet.hot_length (length σ.hot) (omega (arith, w.hot_count)))) ∙ unowned
 
         module _ (h : sheet.hot_used < sheet.hot_length) (l : Looked R)
-            (e : l ≡ looked_at (place (hot_sees number s r.time (number key)) σ.hot) (looked number σ s r.time (number key)))
+            (e : l ≡ looked_at (position_or_len (hot_sees number s r.time (number key)) σ.hot) (looked number σ s r.time (number key)))
             (full : Bool) (f : full ≡ leb sheet.memo_length sheet.memo_used) where
           free : put_seen number σ s r.time key row (looked number σ s r.time (number key)) ≡ put_rule number (lent hot memo ledger) σ s key row
           free =
               let w = entered sheet hot memo ledger s q in
               sym (cond-false _ _ _ (lt-leb sheet.hot_length (length σ.hot) (omega (arith, w.hot_count)))) ∙ unowned
 
-          seen : {x : Result Ending Refusal} → x ≡ ending_of number full σ.memo n l.seen
+          seen : {x : Result (Option Ending) Refusal} → x ≡ ending_of number full σ.memo n l.seen
               → by_ending number (with_finds σ l.finds) s r.time key (λ e. refused e (untold σ))
               (λ τ. served answer.Done (push_hot τ (new_row s key row))) x
               ≡ put_rule number (lent hot memo ledger) σ s key row
@@ -101,7 +101,7 @@ module _ {K R : Type 0} (number : K → ℕ) (sheet : Sheet) (hot : List (HotRow
               → refused x (untold σ) ≡ put_rule number (lent hot memo ledger) σ s key row
           put_unnoted z = seen z
 
-          pub put_served : {x : Ending} → Ok x ≡ ending_of number full σ.memo n l.seen
+          pub put_served : {x : Option Ending} → Ok x ≡ ending_of number full σ.memo n l.seen
               → (ended : List (HotRow K R)) → ended ≡ ended_hot x s hot → length ended ≡ length hot
               → {rows : List (HotRow K R)} → rows ≡ appended (length ended) sheet.hot_used (new_row s key row) (take sheet.hot_used ended)
               → {notices : List (Notice K)} → notices ≡ ended_memo (length memo) sheet.memo_used x s key σ.memo

@@ -10,6 +10,7 @@ use keys::key::Key;
 use rules::answers::Refusal;
 use rules::sheet::Sheet;
 use rules::tables::{HotRow, Line, Notice};
+use scan::tables::Tables;
 
 // Undoes the session and closes it.
 pub fn abandon<K: Key, R: Copy>(
@@ -27,7 +28,13 @@ pub fn abandon<K: Key, R: Copy>(
         ≡ (abandon_rule (lent hot.old memo.old ledger.old)
         (store sheet.old hot.old memo.old ledger.old es limit admits) session).after }
 {
-    admit(sheet, hot, memo, ledger, session)?;
+    let tables = Tables {
+        sheet,
+        hot,
+        memo,
+        ledger,
+    };
+    admit(&tables, session)?;
     undo(sheet, hot, memo, ledger, session);
     Ok(())
 }

@@ -4,7 +4,6 @@ ghost use Rattle.rules.specs.Stores.{store, lent, opened_at};
 ghost use Rattle.rules.specs.Selling.{begin_rule};
 ghost use Rattle.rules.specs.Told.{told_done};
 
-use crate::admit::is_lent;
 use keys::key::Key;
 use rules::answers::{Refusal, Side};
 use rules::sheet::{Mode, Reading, Session, Sheet};
@@ -33,14 +32,15 @@ pub fn begin<K: Key, R: Copy>(
         ≡ (begin_rule (lent hot.now memo.now ledger.now)
         (store sheet.old hot.now memo.now ledger.now es limit admits) session mode).after }
 {
-    if !is_lent(sheet, hot, memo, ledger) {
+    if !sheet.is_lent(hot, memo, ledger) {
         return Err(Refusal::OutOfRange(Side::Seller));
     }
     if session > 63 {
         return Err(Refusal::NoSession);
     }
     let i = session as usize;
-    if let Some(_) = sheet.sessions[i].reading {
+    let reading = sheet.sessions[i].reading;
+    if reading.is_some() {
         return Err(Refusal::AlreadyOpen);
     }
     let time = sheet.clock;

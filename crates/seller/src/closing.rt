@@ -6,7 +6,6 @@ ghost use Rattle.rules.specs.Selling.{close};
 use keys::key::Key;
 use rules::sheet::{Session, Sheet};
 use rules::tables::{HotRow, Line, Notice};
-use scan::checks::Staying;
 use slots::count::retain;
 
 fn close_entry(entry: &mut Session)
@@ -22,7 +21,7 @@ pub(crate) fn close<K: Key, R: Copy>(sheet: &mut Sheet, ledger: &mut [Line<K>], 
         → store sheet.new hot memo ledger.new es limit admits
         ≡ close (store sheet.old hot memo ledger.old es limit admits) session }
 {
-    let lines = retain(ledger, sheet.ledger_used, &Staying(session));
+    let lines = retain(ledger, sheet.ledger_used, |line| line.session != session);
     sheet.ledger_used = lines;
     close_entry(&mut sheet.sessions[session as usize]);
 }

@@ -11,12 +11,12 @@ use keys::key::Key;
 use rules::answers::Refusal;
 use rules::sheet::Sheet;
 use rules::tables::{HotRow, Line, Notice};
-use scan::edits::StampAs;
-use scan::passes::{is_marked, is_stale};
+use scan::edits::{stamp_notice, stamp_row};
+use scan::tables::Tables;
 use slots::change::edit_all;
 
 // The last stamp that the clock can show.
-const CLOCK_END: u32 = 4000000000;
+pub(crate) const CLOCK_END: u32 = 4000000000;
 
 // Makes the session's changes last, and answers their stamp: 0 where there are none. A stale read undoes the session.
 pub fn commit<K: Key, R: Copy>(
@@ -34,12 +34,18 @@ pub fn commit<K: Key, R: Copy>(
         ≡ (commit_rule K.Key.number (lent hot.old memo.old ledger.old)
         (store sheet.old hot.old memo.old ledger.old es limit admits) session).after }
 {
-    let reading = admit(sheet, hot, memo, ledger, session)?;
-    if !is_marked(sheet, hot, memo, session) {
+    let tables = Tables {
+        sheet,
+        hot,
+        memo,
+        ledger,
+    };
+    let reading = admit(&tables, session)?;
+    if !tables.is_marked(session) {
         close::<K, R>(sheet, ledger, session);
         return Ok(0);
     }
-    if is_stale(sheet, hot, memo, ledger, session, reading) {
+    if tables.is_stale(session, reading) {
         undo(sheet, hot, memo, ledger, session);
         return Err(Refusal::StaleRead);
     }
@@ -47,8 +53,12 @@ pub fn commit<K: Key, R: Copy>(
         return Err(Refusal::ClockAtEnd);
     }
     let stamp = sheet.clock + 1;
-    edit_all(hot, sheet.hot_used, &StampAs { session, stamp });
-    edit_all(memo, sheet.memo_used, &StampAs { session, stamp });
+    edit_all(hot, sheet.hot_used, |row| stamp_row(row, session, stamp));
+    edit_all(
+        memo,
+        sheet.memo_used,
+        |notice| stamp_notice(notice, session, stamp),
+    );
     sheet.clock = stamp;
     close::<K, R>(sheet, ledger, session);
     Ok(stamp)

@@ -1,5 +1,4 @@
-ghost use Rattle.std.specs.Prelude.{◌≡◌, true};
-ghost use Rattle.cold.specs.Cold.{in_order};
+ghost use Rattle.std.specs.Prelude.{◌≡◌};
 ghost use Rattle.rules.specs.Stores.{store, lent};
 ghost use Rattle.rules.specs.Selling.{drop_rule};
 ghost use Rattle.rules.specs.Told.{told_was};
@@ -13,11 +12,9 @@ use keys::key::Key;
 use rules::answers::Refusal;
 use rules::sheet::Sheet;
 use rules::tables::{HotRow, Line, Notice};
-use scan::checks::OwnOf;
-use scan::look::lookup;
-use scan::looked::Reader;
-use scan::passes::{is_conflict, is_line_new};
-use scan::search::place_of;
+use rules::times::Reader;
+use scan::look::Look;
+use scan::tables::Tables;
 use slots::count::take_out;
 
 // Takes the session's own unfinished version of the key out, or else ends the one that it sees. Answers whether there was a row.
@@ -32,7 +29,6 @@ pub fn drop<K: Key, R: Copy, C: ColdStore<K, R>, F: Filter>(
     session: u32,
     key: K,
 ) -> Result<bool, Refusal>
-    requires { in_order (C.ColdStore.entries cold.now) ≡ true }
     ensures answer { told_was result
         ≡ (drop_rule K.Key.number (lent hot.old memo.old ledger.old)
         (store sheet.old hot.old memo.old ledger.old (C.ColdStore.entries cold.now)
@@ -44,30 +40,35 @@ pub fn drop<K: Key, R: Copy, C: ColdStore<K, R>, F: Filter>(
         (C.ColdStore.limit cold.now) (F.Filter.admitted filter.now)) session key).after }
 {
     sheet.finds = 0;
-    let reading = admit(sheet, hot, memo, ledger, session)?;
-    let number = key.number();
+    let tables = Tables {
+        sheet,
+        hot,
+        memo,
+        ledger,
+    };
+    let reading = admit(&tables, session)?;
     let reader = Reader {
         session,
         time: reading.time,
-        number,
     };
-    if is_conflict(sheet, hot, memo, reader) {
+    let number = key.number();
+    let look = Look { reader, number };
+    if tables.is_conflict(look) {
         return Err(Refusal::Conflict);
     }
-    let note = is_line_new(sheet, ledger, reading.mode, session, number);
+    let note = tables.is_line_new(reading.mode, look);
     if is_ledger_short(sheet, note) {
         return Err(Refusal::LedgerFull);
     }
-    if let Some(at) = place_of(hot, sheet.hot_used, &OwnOf(reader)) {
+    if let Some(at) = tables.own_place(look) {
         let rows = take_out(hot, sheet.hot_used, at);
         let lines = note_line(ledger, sheet.ledger_used, note, session, key);
         sheet.hot_used = rows;
         sheet.ledger_used = lines;
         return Ok(true);
     }
-    let looked = lookup(sheet, hot, memo, cold, filter, session, reading.time, &key);
-    let full = sheet.memo_length <= sheet.memo_used;
-    let ending = ending_of(memo, sheet.memo_used, full, number, looked.seen)?;
+    let looked = tables.lookup(cold, filter, reader, &key);
+    let ending = ending_of(&tables, number, looked.seen)?;
     let notices = end_version(hot, memo, sheet.memo_used, ending, session, key);
     let lines = note_line(ledger, sheet.ledger_used, note, session, key);
     sheet.finds = looked.finds;

@@ -1,21 +1,19 @@
-ghost use Rattle.std.specs.Prelude.{◌≡◌, length, take};
-ghost use Rattle.seller.specs.Ending.{entry_ending, ending_of, ending_count, ended_hot, ended_memo};
+ghost use Rattle.std.specs.Prelude.{◌≡◌, length, take, nat_le};
+ghost use Rattle.seller.specs.Ending.{ending_of, ending_count, ended_hot, ended_memo};
 
 use keys::key::Key;
 use rules::answers::{Refusal, Side};
-use rules::tables::{End, HotRow, Kind, Notice};
-use scan::checks::IsFor;
-use scan::edits::EndBy;
+use rules::tables::{HotRow, Kind, Notice};
+use rules::times::Moment;
+use scan::edits::{end_notice, end_row};
 use scan::looked::{Place, Seen};
-use scan::search::place_of;
+use scan::tables::Tables;
 use slots::change::edit_at;
 use slots::count::append;
 
 // How a version is ended.
 #[derive(Clone, Copy)]
 pub(crate) enum Ending {
-    // there is none
-    Nothing,
     // the hot row at a place
     Row(usize),
     // a cold entry, by its notice at a place
@@ -24,42 +22,29 @@ pub(crate) enum Ending {
     Add(u32),
 }
 
-// How the cold entry of a key and tag is ended, or the refusal where a notice is needed and none is free.
-fn entry_ending<K: Key>(
-    memo: &[Notice<K>],
-    used: usize,
-    full: bool,
-    number: u64,
-    tag: u32,
-) -> Result<Ending, Refusal>
-    ensures { result ≡ entry_ending K.Key.number full (take used memo.now) number tag }
-{
-    if let Some(at) = place_of(memo, used, &IsFor { number, tag }) {
-        return Ok(Ending::Turn(at));
-    }
-    if full {
-        return Err(Refusal::MemoFull(Side::Seller));
-    }
-    Ok(Ending::Add(tag))
-}
-
-// How the version that was seen is ended.
+// How the version that was seen is ended, if there is one, or the refusal where a notice is needed and none is free.
 pub(crate) fn ending_of<K: Key, R: Copy>(
-    memo: &[Notice<K>],
-    used: usize,
-    full: bool,
+    tables: &Tables<'_, K, R>,
     number: u64,
     seen: Option<Seen<R>>,
-) -> Result<Ending, Refusal>
-    ensures { result ≡ ending_of K.Key.number full (take used memo.now) number seen }
+) -> Result<Option<Ending>, Refusal>
+    ensures { result ≡ ending_of K.Key.number (nat_le tables.now.sheet.now.memo_length tables.now.sheet.now.memo_used)
+        (take tables.now.sheet.now.memo_used tables.now.memo.now) number seen }
 {
-    match seen {
-        None => Ok(Ending::Nothing),
-        Some(version) => match version.place {
-            Place::Hot(at) => Ok(Ending::Row(at)),
-            Place::Cold(tag) => entry_ending(memo, used, full, number, tag),
+    let Some(version) = seen else {
+        return Ok(None);
+    };
+    let ending = match version.place {
+        Place::Hot(at) => Ending::Row(at),
+        Place::Cold(tag) => match tables.notice_place(number, tag) {
+            Some(at) => Ending::Turn(at),
+            None if tables.sheet.memo_length <= tables.sheet.memo_used => {
+                return Err(Refusal::MemoFull(Side::Seller));
+            }
+            None => Ending::Add(tag),
         },
-    }
+    };
+    Ok(Some(ending))
 }
 
 // Ends the version with the session's mark, and answers how many notices there are then.
@@ -67,7 +52,7 @@ pub(crate) fn end_version<K: Key, R: Copy>(
     hot: &mut [HotRow<K, R>],
     memo: &mut [Notice<K>],
     used: usize,
-    ending: Ending,
+    ending: Option<Ending>,
     session: u32,
     key: K,
 ) -> usize
@@ -77,29 +62,25 @@ pub(crate) fn end_version<K: Key, R: Copy>(
         ≡ ended_memo (length memo.old) used ending session key (take used memo.old) }
 {
     match ending {
-        Ending::Nothing => {
-            return used;
+        None => used,
+        Some(Ending::Row(at)) => {
+            edit_at(hot, at, |row| end_row(row, session));
+            used
         }
-        Ending::Row(at) => {
-            edit_at(hot, at, &EndBy(session));
-            return used;
+        Some(Ending::Turn(at)) => {
+            edit_at(memo, at, |notice| end_notice(notice, session));
+            used
         }
-        Ending::Turn(at) => {
-            edit_at(memo, at, &EndBy(session));
-            return used;
-        }
-        Ending::Add(tag) => {
-            return append(
-                memo,
-                used,
-                Notice {
-                    key,
-                    tag,
-                    kind: Kind::E,
-                    begin: 1,
-                    end: End::Mark(session),
-                },
-            );
-        }
+        Some(Ending::Add(tag)) => append(
+            memo,
+            used,
+            Notice {
+                key,
+                tag,
+                kind: Kind::E,
+                begin: 1,
+                end: Some(Moment::Mark(session)),
+            },
+        ),
     }
 }

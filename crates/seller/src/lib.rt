@@ -1,4 +1,5 @@
-// The seller's calls on a store whose sheet and tables are lent: open, begin, read, put, drop, commit, abandon.
+// The seller's calls on a store: open, begin, read, put, drop, commit, abandon.
+// The sheet, the three tables, the cold store and the filter are the caller's, and each call is lent those it needs one by one.
 #![tactic(auto)]
 
 pub mod abandon;

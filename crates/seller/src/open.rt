@@ -3,9 +3,13 @@ ghost use Rattle.rules.specs.Opening.{in_range};
 ghost use Rattle.seller.specs.Opens.{Opens};
 ghost use Rattle.law.specs.Law.{Law};
 
+use crate::commit::CLOCK_END;
 use keys::key::Key;
 use rules::answers::{Refusal, Side};
 use rules::sheet::{Session, Sheet};
+
+// The last tag that a move can get.
+const TAG_END: u32 = 4000000000;
 
 // Whether the numbers of an opening are within their ranges.
 fn is_in_range(
@@ -17,19 +21,11 @@ fn is_in_range(
 ) -> bool
     ensures { result ≡ in_range (record { hots = hot_length; memos = memo_length; lines = ledger_length }) clock last_tag }
 {
-    if hot_length < 1 || hot_length > 65536 {
-        return false;
-    }
-    if memo_length < 1 || memo_length > 8192 {
-        return false;
-    }
-    if ledger_length < 1 || ledger_length > 4096 {
-        return false;
-    }
-    if clock < 1 || clock > 4000000000 {
-        return false;
-    }
-    last_tag <= 4000000000
+    (1..=65536).contains(&hot_length)
+        && (1..=8192).contains(&memo_length)
+        && (1..=4096).contains(&ledger_length)
+        && (1..=CLOCK_END).contains(&clock)
+        && last_tag <= TAG_END
 }
 
 // A new sheet: over any tables it is an empty store with all sessions closed. Numbers out of range are refused.

@@ -1,5 +1,4 @@
-ghost use Rattle.std.specs.Prelude.{◌≡◌, true};
-ghost use Rattle.cold.specs.Cold.{in_order};
+ghost use Rattle.std.specs.Prelude.{◌≡◌};
 ghost use Rattle.rules.specs.Stores.{store, lent};
 ghost use Rattle.rules.specs.Selling.{put_rule};
 ghost use Rattle.rules.specs.Told.{told_done};
@@ -11,13 +10,10 @@ use filter::Filter;
 use keys::key::Key;
 use rules::answers::Refusal;
 use rules::sheet::Sheet;
-use rules::tables::{Begin, End, HotRow, Line, MoveMark, Notice};
-use scan::checks::OwnOf;
-use scan::edits::SetRow;
-use scan::look::lookup;
-use scan::looked::Reader;
-use scan::passes::is_conflict;
-use scan::search::place_of;
+use rules::tables::{HotRow, Line, MoveMark, Notice};
+use rules::times::{Moment, Reader};
+use scan::look::Look;
+use scan::tables::Tables;
 use slots::change::edit_at;
 use slots::count::append;
 
@@ -33,7 +29,6 @@ pub fn put<K: Key, R: Copy, C: ColdStore<K, R>, F: Filter>(
     key: K,
     row: R,
 ) -> Result<(), Refusal>
-    requires { in_order (C.ColdStore.entries cold.now) ≡ true }
     ensures answer { told_done result
         ≡ (put_rule K.Key.number (lent hot.old memo.old ledger.now)
         (store sheet.old hot.old memo.old ledger.now (C.ColdStore.entries cold.now)
@@ -45,26 +40,31 @@ pub fn put<K: Key, R: Copy, C: ColdStore<K, R>, F: Filter>(
         (C.ColdStore.limit cold.now) (F.Filter.admitted filter.now)) session key row).after }
 {
     sheet.finds = 0;
-    let reading = admit(sheet, hot, memo, ledger, session)?;
-    let number = key.number();
+    let tables = Tables {
+        sheet,
+        hot,
+        memo,
+        ledger,
+    };
+    let reading = admit(&tables, session)?;
     let reader = Reader {
         session,
         time: reading.time,
-        number,
     };
-    if is_conflict(sheet, hot, memo, reader) {
+    let number = key.number();
+    let look = Look { reader, number };
+    if tables.is_conflict(look) {
         return Err(Refusal::Conflict);
     }
-    if let Some(at) = place_of(hot, sheet.hot_used, &OwnOf(reader)) {
-        edit_at(hot, at, &SetRow(row));
+    if let Some(at) = tables.own_place(look) {
+        edit_at(hot, at, |version| version.row = row);
         return Ok(());
     }
-    if sheet.hot_length <= sheet.hot_used {
+    if tables.sheet.hot_length <= tables.sheet.hot_used {
         return Err(Refusal::HotFull);
     }
-    let looked = lookup(sheet, hot, memo, cold, filter, session, reading.time, &key);
-    let full = sheet.memo_length <= sheet.memo_used;
-    let ending = ending_of(memo, sheet.memo_used, full, number, looked.seen)?;
+    let looked = tables.lookup(cold, filter, reader, &key);
+    let ending = ending_of(&tables, number, looked.seen)?;
     let notices = end_version(hot, memo, sheet.memo_used, ending, session, key);
     let rows = append(
         hot,
@@ -72,8 +72,8 @@ pub fn put<K: Key, R: Copy, C: ColdStore<K, R>, F: Filter>(
         HotRow {
             key,
             row,
-            begin: Begin::Mark(session),
-            end: End::Open,
+            begin: Moment::Mark(session),
+            end: None,
             mark: MoveMark::Unmoved,
         },
     );

@@ -1,5 +1,4 @@
-ghost use Rattle.std.specs.Prelude.{◌≡◌, true};
-ghost use Rattle.cold.specs.Cold.{in_order};
+ghost use Rattle.std.specs.Prelude.{◌≡◌};
 ghost use Rattle.rules.specs.Stores.{store, lent};
 ghost use Rattle.rules.specs.Selling.{read_rule};
 ghost use Rattle.rules.specs.Told.{told_row};
@@ -12,8 +11,9 @@ use keys::key::Key;
 use rules::answers::Refusal;
 use rules::sheet::Sheet;
 use rules::tables::{HotRow, Line, Notice};
-use scan::look::{lookup, seen_row};
-use scan::passes::is_line_new;
+use rules::times::Reader;
+use scan::look::Look;
+use scan::tables::Tables;
 
 // The row that the session sees of the key, if there is one. A checked session's look is entered in the ledger.
 pub fn read<K: Key, R: Copy, C: ColdStore<K, R>, F: Filter>(
@@ -26,7 +26,6 @@ pub fn read<K: Key, R: Copy, C: ColdStore<K, R>, F: Filter>(
     session: u32,
     key: K,
 ) -> Result<Option<R>, Refusal>
-    requires { in_order (C.ColdStore.entries cold.now) ≡ true }
     ensures answer { told_row result
         ≡ (read_rule K.Key.number (lent hot.now memo.now ledger.old)
         (store sheet.old hot.now memo.now ledger.old (C.ColdStore.entries cold.now)
@@ -38,14 +37,25 @@ pub fn read<K: Key, R: Copy, C: ColdStore<K, R>, F: Filter>(
         (C.ColdStore.limit cold.now) (F.Filter.admitted filter.now)) session key).after }
 {
     sheet.finds = 0;
-    let reading = admit(sheet, hot, memo, ledger, session)?;
-    let note = is_line_new(sheet, ledger, reading.mode, session, key.number());
+    let tables = Tables {
+        sheet,
+        hot,
+        memo,
+        ledger,
+    };
+    let reading = admit(&tables, session)?;
+    let reader = Reader {
+        session,
+        time: reading.time,
+    };
+    let number = key.number();
+    let note = tables.is_line_new(reading.mode, Look { reader, number });
     if is_ledger_short(sheet, note) {
         return Err(Refusal::LedgerFull);
     }
-    let looked = lookup(sheet, hot, memo, cold, filter, session, reading.time, &key);
+    let looked = tables.lookup(cold, filter, reader, &key);
     let lines = note_line(ledger, sheet.ledger_used, note, session, key);
     sheet.finds = looked.finds;
     sheet.ledger_used = lines;
-    Ok(seen_row(looked.seen))
+    Ok(looked.row())
 }

@@ -1,7 +1,7 @@
-use Rattle.std.proofs.Common.{ℕ, ◌+◌, Bool, List, refl, ap, ◌∙◌}
+use Rattle.std.proofs.Common.{ℕ, ◌+◌, Bool, List, refl, ap, ◌∙◌, rules}
 use Rattle.cold.specs.Cold.{Entry}
 use Rattle.rules.specs.Stores.{Store, store, lent, with_clock}
-use Rattle.rules.specs.Selling.{close}
+use Rattle.rules.specs.Selling.{close, stamp_row, stamp_notice}
 use Rattle.rules.specs.Told.{told_at}
 use Rattle.seller.proofs.Admission.{entered}
 use Rattle.seller.proofs.Ends.{commit_refused, commit_unmarked, commit_stale, commit_late, commit_stamped}
@@ -75,6 +75,7 @@ returns g c =
           c.close-2.ensures c.edit_all.new.slots c.edit_all-2.new.slots es limit admits
           ∙ ap (λ (z : Store g.row.K.Denot g.row.R.Denot). close (with_clock z (c.args.sheet.now.clock + 1)) c.args.session)
           (same_tables (store c.args.sheet.now c.args.hot.now c.args.memo.now c.args.ledger.now es limit admits)
-          c.edit_all.ensures c.edit_all-2.ensures refl)
+          (c.edit_all.ensures (stamp_row c.args.session (c.args.sheet.now.clock + 1)) (search rules))
+          (c.edit_all-2.ensures (stamp_notice c.args.session (c.args.sheet.now.clock + 1)) (search rules)) refl)
           ∙ ap after_of (given es limit admits);
     }

@@ -60,7 +60,7 @@ returns-in_err-ending g c =
     let given = drop_unnoted g.K.Key.number c.args.sheet.now c.args.hot.now c.args.memo.now c.args.ledger.now
     (g.C.ColdStore.entries c.args.cold.now) (g.C.ColdStore.limit c.args.cold.now) (g.F.Filter.admitted c.args.filter.now)
     c.args.session c.args.key c.in_ok-reading.reading c.in_ok-reading.ensures c.number-number.result c.number-number.ensures
-    c.if-is_conflict.ensures c.is_line_new-note.result c.is_line_new-note.ensures c.if-is_ledger_short.ensures (sym c.in_default.is ∙ c.place_of.ensures) c.lookup-looked.result c.lookup-looked.ensures
+    c.if-is_conflict.ensures c.is_line_new-note.result c.is_line_new-note.ensures c.if-is_ledger_short.ensures (sym c.in_default.is ∙ c.own_place.ensures) c.lookup-looked.result c.lookup-looked.ensures
     (leb c.args.sheet.now.memo_length c.args.sheet.now.memo_used) refl c.in_err-ending.ensures in
     record {
       answer = ap told_was (left_by c.from_residual-in_err-ending.result _ c.from_residual-in_err-ending.ensures.1) ∙ ap answer_of given;
@@ -86,7 +86,7 @@ returns g c =
     let given = drop_served g.K.Key.number c.args.sheet.now c.args.hot.now c.args.memo.now c.args.ledger.now
     (g.C.ColdStore.entries c.args.cold.now) (g.C.ColdStore.limit c.args.cold.now) (g.F.Filter.admitted c.args.filter.now)
     c.args.session c.args.key c.in_ok-reading.reading c.in_ok-reading.ensures c.number-number.result c.number-number.ensures
-    c.if-is_conflict.ensures c.is_line_new-note.result c.is_line_new-note.ensures c.if-is_ledger_short.ensures (sym c.in_default.is ∙ c.place_of.ensures) c.lookup-looked.result c.lookup-looked.ensures
+    c.if-is_conflict.ensures c.is_line_new-note.result c.is_line_new-note.ensures c.if-is_ledger_short.ensures (sym c.in_default.is ∙ c.own_place.ensures) c.lookup-looked.result c.lookup-looked.ensures
     (leb c.args.sheet.now.memo_length c.args.sheet.now.memo_used) refl c.in_ok-ending.ensures
     c.is_some.ensures c.end_version-notices.ensures.hot c.end_version-notices.ensures.memo c.note_line-lines-2.ensures.list in
     record { answer = ap answer_of given; after = ap after_of given }

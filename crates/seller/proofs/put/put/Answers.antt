@@ -1,4 +1,5 @@
-use Rattle.std.proofs.Common.{leb, length, sym, refl, ap, ◌∙◌, arith}
+use Rattle.std.proofs.Common.{leb, length, sym, refl, ap, ◌∙◌, arith, rules}
+use Rattle.rules.specs.Selling.{with_row}
 use Rattle.rules.specs.Told.{told_done}
 use Rattle.seller.proofs.Admission.{entered}
 use Rattle.seller.proofs.Endings.{ended_count}
@@ -29,15 +30,15 @@ returns-in-Some g c =
     let given = put_own g.K.Key.number c.args.sheet.now c.args.hot.now c.args.memo.now c.args.ledger.now
     (g.C.ColdStore.entries c.args.cold.now) (g.C.ColdStore.limit c.args.cold.now) (g.F.Filter.admitted c.args.filter.now)
     c.args.session c.args.key c.args.row c.in_ok-reading.reading c.in_ok-reading.ensures c.number-number.result c.number-number.ensures
-    c.if-is_conflict.ensures c.in-Some.at c.in-Some.ensures c.edit_at.ensures in
+    c.if-is_conflict.ensures c.in-Some.at c.in-Some.ensures (c.edit_at.ensures (with_row c.args.row) (search rules)) in
     record { answer = ap answer_of given; after = ap after_of given }
 
-pub returns-then-sheet : goal.returns-then-sheet
-returns-then-sheet g c =
+pub returns-then-tables : goal.returns-then-tables
+returns-then-tables g c =
     let given = put_full g.K.Key.number c.args.sheet.now c.args.hot.now c.args.memo.now c.args.ledger.now
     (g.C.ColdStore.entries c.args.cold.now) (g.C.ColdStore.limit c.args.cold.now) (g.F.Filter.admitted c.args.filter.now)
     c.args.session c.args.key c.args.row c.in_ok-reading.reading c.in_ok-reading.ensures c.number-number.result c.number-number.ensures
-    c.if-is_conflict.ensures (sym c.in_default.is ∙ c.place_of.ensures) c.if-sheet.true in
+    c.if-is_conflict.ensures (sym c.in_default.is ∙ c.own_place.ensures) c.if-tables.true in
     record { answer = ap answer_of given; after = ap after_of given }
 
 pub returns-in_err-ending : goal.returns-in_err-ending
@@ -45,7 +46,7 @@ returns-in_err-ending g c =
     let given = put_unnoted g.K.Key.number c.args.sheet.now c.args.hot.now c.args.memo.now c.args.ledger.now
     (g.C.ColdStore.entries c.args.cold.now) (g.C.ColdStore.limit c.args.cold.now) (g.F.Filter.admitted c.args.filter.now)
     c.args.session c.args.key c.args.row c.in_ok-reading.reading c.in_ok-reading.ensures c.number-number.result c.number-number.ensures
-    c.if-is_conflict.ensures (sym c.in_default.is ∙ c.place_of.ensures) c.if-sheet.false c.lookup-looked.result c.lookup-looked.ensures
+    c.if-is_conflict.ensures (sym c.in_default.is ∙ c.own_place.ensures) c.if-tables.false c.lookup-looked.result c.lookup-looked.ensures
     (leb c.args.sheet.now.memo_length c.args.sheet.now.memo_used) refl c.in_err-ending.ensures in
     record {
       answer = ap told_done (left_by c.from_residual-in_err-ending.result _ c.from_residual-in_err-ending.ensures.1) ∙ ap answer_of given;
@@ -71,7 +72,7 @@ returns g c =
     let given = put_served g.K.Key.number c.args.sheet.now c.args.hot.now c.args.memo.now c.args.ledger.now
     (g.C.ColdStore.entries c.args.cold.now) (g.C.ColdStore.limit c.args.cold.now) (g.F.Filter.admitted c.args.filter.now)
     c.args.session c.args.key c.args.row c.in_ok-reading.reading c.in_ok-reading.ensures c.number-number.result c.number-number.ensures
-    c.if-is_conflict.ensures (sym c.in_default.is ∙ c.place_of.ensures) c.if-sheet.false c.lookup-looked.result c.lookup-looked.ensures
+    c.if-is_conflict.ensures (sym c.in_default.is ∙ c.own_place.ensures) c.if-tables.false c.lookup-looked.result c.lookup-looked.ensures
     (leb c.args.sheet.now.memo_length c.args.sheet.now.memo_used) refl c.in_ok-ending.ensures
     c.end_version-notices.new.hot c.end_version-notices.ensures.hot c.end_version-notices.auto.hot
     c.append-rows.ensures.list c.end_version-notices.ensures.memo in

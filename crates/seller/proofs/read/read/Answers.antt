@@ -3,7 +3,7 @@ use Rattle.rules.specs.Looking.{hot_sees}
 use Rattle.rules.specs.Selling.{new_line}
 use Rattle.rules.specs.Told.{told_row}
 use Rattle.scan.specs.Bare.{bare}
-use Rattle.scan.specs.Places.{place}
+use Rattle.std.specs.List.{position_or_len}
 use Rattle.seller.proofs.Admission.{entered}
 use Rattle.seller.proofs.Looks.{lined_count, read_refused, read_short, read_served}
 use Rattle.seller.proofs.Parts.{answer_of, after_of, left_by}
@@ -25,7 +25,7 @@ returns-then-is_ledger_short g c =
     let given = read_short g.K.Key.number c.args.sheet.now c.args.hot.now c.args.memo.now c.args.ledger.now
     (g.C.ColdStore.entries c.args.cold.now) (g.C.ColdStore.limit c.args.cold.now) (g.F.Filter.admitted c.args.filter.now)
     c.args.session c.args.key c.in_ok-reading.reading c.in_ok-reading.ensures c.is_line_new-note.result
-    (c.is_line_new-note.ensures ∙ ap (λ k. new_line g.K.Key.number σ c.in_ok-reading.reading.mode c.args.session k) c.number.ensures)
+    (c.is_line_new-note.ensures ∙ ap (λ k. new_line g.K.Key.number σ c.in_ok-reading.reading.mode c.args.session k) c.number-number.ensures)
     c.if-is_ledger_short.ensures in
     record { answer = ap answer_of given; after = ap after_of given }
 
@@ -44,7 +44,7 @@ returns g c =
     let given = read_served g.K.Key.number c.args.sheet.now c.args.hot.now c.args.memo.now c.args.ledger.now
     (g.C.ColdStore.entries c.args.cold.now) (g.C.ColdStore.limit c.args.cold.now) (g.F.Filter.admitted c.args.filter.now)
     c.args.session c.args.key c.in_ok-reading.reading c.in_ok-reading.ensures c.is_line_new-note.result
-    (c.is_line_new-note.ensures ∙ ap (λ k. new_line g.K.Key.number σ c.in_ok-reading.reading.mode c.args.session k) c.number.ensures)
-    c.if-is_ledger_short.ensures (place sees rows) c.lookup-looked.result c.lookup-looked.ensures c.seen_row.ensures
+    (c.is_line_new-note.ensures ∙ ap (λ k. new_line g.K.Key.number σ c.in_ok-reading.reading.mode c.args.session k) c.number-number.ensures)
+    c.if-is_ledger_short.ensures (position_or_len sees rows) c.lookup-looked.result c.lookup-looked.ensures c.row.ensures
     c.note_line-lines.ensures.list in
     record { answer = ap answer_of given; after = ap after_of given }
