@@ -1,12 +1,12 @@
 -- The horizon is the greatest number that is below the clock and below every read time of an open session, since no
 -- session reads past the clock.
-use Rattle.std.proofs.Common.{◌≡◌, ℕ, zero, suc, ◌≤◌, List, [], ◌∷◌, set, replicate, Some, None, Option, subst, arith}
+use Rattle.std.proofs.Common.{◌≡◌, ℕ, zero, suc, ◌≤◌, List, [], ◌∷◌, set, replicate, Some, None, Option, unwrap_or, subst, arith}
 use Rattle.std.specs.List.{AllByRecursion as All}
 use Rattle.std.proofs.ByRecursion.{All-set, All-weaker}
 use Rattle.rules.specs.declared.sheet.Mode.{Mode}
 use Rattle.rules.specs.declared.sheet.Reading.{Reading}
 use Rattle.rules.specs.declared.sheet.Session.{Session}
-use Rattle.rules.specs.Horizon.{horizon, least_time, lesser, or_clock}
+use Rattle.rules.specs.Horizon.{horizon, least_time, lesser}
 use Rattle.rules.specs.Stores.{closed, opened_at, session_at}
 
 -- a session that is open reads at g or later
@@ -54,7 +54,7 @@ least_join g (x ∷ xs) a = under_join g x.reading (least_time xs) a.0 (least_jo
 pub horizon_all : (c : ℕ) (xs : List Session) → All (ReadsFrom (horizon c xs)) xs
 horizon_all c xs = least_parts (horizon c xs) xs (go (least_time xs))
   where
-    go : (l : Option ℕ) → Under (or_clock l c) l
+    go : (l : Option ℕ) → Under (unwrap_or l c) l
     go None = tt
     go (Some t) = omega arith
 
@@ -62,7 +62,7 @@ horizon_all c xs = least_parts (horizon c xs) xs (go (least_time xs))
 pub horizon_most : (g c : ℕ) (xs : List Session) → g ≤ c → All (ReadsFrom g) xs → g ≤ horizon c xs
 horizon_most g c xs l a = go (least_time xs) (least_join g xs a)
   where
-    go : (o : Option ℕ) → Under g o → g ≤ or_clock o c
+    go : (o : Option ℕ) → Under g o → g ≤ unwrap_or o c
     go None u = l
     go (Some t) u = u
 
@@ -79,12 +79,12 @@ pub early_read : (c : ℕ) (xs : List Session) (s : ℕ) (r : Reading)
 early_read c xs s r a e = subst (Within c) e (at_place (Early c) xs s a tt)
 
 -- the smallest read time is one of them
-least_early : (c : ℕ) (xs : List Session) → All (Early c) xs → or_clock (least_time xs) c ≤ c
+least_early : (c : ℕ) (xs : List Session) → All (Early c) xs → unwrap_or (least_time xs) c ≤ c
 unfolding least_time
 least_early c [] a = omega arith
 least_early c (x ∷ xs) a = go x.reading (least_time xs) a.0 (least_early c xs a.1)
   where
-    go : (o : Option Reading) (l : Option ℕ) → Within c o → or_clock l c ≤ c → or_clock (lesser o l) c ≤ c
+    go : (o : Option Reading) (l : Option ℕ) → Within c o → unwrap_or l c ≤ c → unwrap_or (lesser o l) c ≤ c
     go None l w h = h
     go (Some r) None w h = w.1
     go (Some r) (Some t) w h = omega arith

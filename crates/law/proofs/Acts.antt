@@ -1,13 +1,12 @@
 -- A session's own puts and drops, replayed on a table that shows a key as the session saw it at its read time, leave of
 -- that key what the session sees.
-use Rattle.std.proofs.Common.{◌≡◌, ℕ, ◌+◌, ◌≤◌, Bool, true, false, cond, ◌&&◌, eqb, List, [], ◌∷◌, is_some, Some, None, Option, sym, refl, ap, ◌∙◌, subst, arith}
+use Rattle.std.proofs.Common.{◌≡◌, ℕ, ◌+◌, ◌≤◌, Bool, true, false, cond, ◌&&◌, eqb, List, [], ◌∷◌, is_some, Some, None, Option, sym, refl, ap, ◌∙◌, subst, arith, Ok, Err}
 use Rattle.std.proofs.lemmas.Bool.{eqb-true, eq-eqb, ne_eqb, lt-leb, or_parts}
 use Rattle.rules.specs.declared.sheet.Mode.{Mode}
-use Rattle.rules.specs.declared.answers.Answer.{Answer}
 use Rattle.rules.specs.declared.answers.Answer.TheVariants as answer
 use Rattle.rules.specs.declared.answers.Call.{Call}
 use Rattle.rules.specs.declared.answers.Call.TheVariants as call
-use Rattle.rules.specs.Outcomes.{if_served}
+use Rattle.rules.specs.Outcomes.{Told, if_served}
 use Rattle.rules.specs.Refusals.{is_stale}
 use Rattle.slots.specs.Lists.{any}
 use Rattle.versions.specs.Writes.{over, upd}
@@ -120,46 +119,36 @@ module _ {K R : Type 0} (number : K → ℕ) where
     not_closing : (u : ℕ) (t : Bool) → (eqb u s && t) ≡ false → t ≡ true → eqb s u ≡ false
     not_closing u t e q = ne_eqb s u (λ z. false_true (sym (rw (eq-eqb u s (sym z), q) refl) ∙ e))
 
-    commit_goes : (u : ℕ) (a : Answer R) → CommitFact T u a → (eqb u s && commit_closes a) ≡ false → Goes (feed_commit T u a) table
-    commit_goes u answer.Done f e = stays
-    commit_goes u (answer.Row o) f e = stays
-    commit_goes u (answer.Was o) f e = stays
-    commit_goes u (answer.At n) f e =
+    commit_goes : (u : ℕ) (a : Told R) → CommitFact T u a → (eqb u s && commit_closes a) ≡ false → Goes (feed_commit T u a) table
+    commit_goes u (Ok answer.Done) f e = stays
+    commit_goes u (Ok (answer.Row o)) f e = stays
+    commit_goes u (Ok (answer.Was o)) f e = stays
+    commit_goes u (Ok (answer.At n)) f e =
         let ne = not_closing u true e refl in
         by_answer T u n (λ _ U. Goes U table) f (other u None ne) (working_commit T s m k r v w u low ne, rw ne h)
-    commit_goes u (answer.Tag n) f e = stays
-    commit_goes u (answer.Swept o) f e = stays
-    commit_goes u (answer.Refused why) f e = go (is_stale why) refl
+    commit_goes u (Ok (answer.Tag n)) f e = stays
+    commit_goes u (Ok (answer.Swept o)) f e = stays
+    commit_goes u (Err why) f e = go (is_stale why) refl
       where
         go : (t : Bool) → is_stale why ≡ t → Goes (cond t (closes T u) T) table
         go true q = other u None (not_closing u (is_stale why) e q)
         go false q = stays
 
-    begin_goes : (u : ℕ) (a : Answer R) (o : Turn R) → BeginFact T u a → Goes (if_served a (with_turn T u (Some o)) T) table
+    begin_goes : (u : ℕ) (a : Told R) (o : Turn R) → BeginFact T u a → Goes (if_served a (with_turn T u (Some o)) T) table
     begin_goes u a o f = go a f
       where
         ne : T.turn u ≡ None → eqb s u ≡ false
         ne e = ne_eqb s u (λ z. none_some w.turn (ap T.turn z ∙ e) w.has)
 
-        go : (a : Answer R) → BeginFact T u a → Goes (if_served a (with_turn T u (Some o)) T) table
-        go answer.Done f = other u (Some o) (ne f)
-        go (answer.Row x) f = other u (Some o) (ne f)
-        go (answer.Was x) f = other u (Some o) (ne f)
-        go (answer.At x) f = other u (Some o) (ne f)
-        go (answer.Tag x) f = other u (Some o) (ne f)
-        go (answer.Swept x) f = other u (Some o) (ne f)
-        go (answer.Refused x) f = stays
+        go : (a : Told R) → BeginFact T u a → Goes (if_served a (with_turn T u (Some o)) T) table
+        go (Ok v) f = other u (Some o) (ne f)
+        go (Err x) f = stays
 
     -- a put or drop that is served is carried out on both sides, and else on none
-    served_act : (u : ℕ) (a : Answer R) (new : Table R) (U : History R) → Goes U (cond (eqb u s) new table)
+    served_act : (u : ℕ) (a : Told R) (new : Table R) (U : History R) → Goes U (cond (eqb u s) new table)
         → Goes (if_served a U T) (cond (eqb u s) (if_served a new table) table)
-    served_act u answer.Done new U g = g
-    served_act u (answer.Row o) new U g = g
-    served_act u (answer.Was o) new U g = g
-    served_act u (answer.At n) new U g = g
-    served_act u (answer.Tag n) new U g = g
-    served_act u (answer.Swept o) new U g = g
-    served_act u (answer.Refused e) new U g = go (eqb u s)
+    served_act u (Ok v) new U g = g
+    served_act u (Err e) new U g = go (eqb u s)
       where
         go : (t : Bool) → Goes T (cond t table table)
         go true = stays
@@ -168,16 +157,11 @@ module _ {K R : Type 0} (number : K → ℕ) where
     drop_of_own : (u j : ℕ) → u ≡ s → k ≡ j → None ≡ over (cond (had T u j) (Some None) None) v
     drop_of_own u j q e = subst (λ z. None ≡ over (cond (had T z j) (Some None) None) v) (sym q) (drop_write T s m k r v w j e)
 
-    abandon_goes : (u : ℕ) (a : Answer R) → (eqb u s && if_served a true false) ≡ false → Goes (if_served a (closes T u) T) table
-    abandon_goes u answer.Done e = other u None (not_closing u true e refl)
-    abandon_goes u (answer.Row o) e = other u None (not_closing u true e refl)
-    abandon_goes u (answer.Was o) e = other u None (not_closing u true e refl)
-    abandon_goes u (answer.At n) e = other u None (not_closing u true e refl)
-    abandon_goes u (answer.Tag n) e = other u None (not_closing u true e refl)
-    abandon_goes u (answer.Swept o) e = other u None (not_closing u true e refl)
-    abandon_goes u (answer.Refused why) e = stays
+    abandon_goes : (u : ℕ) (a : Told R) → (eqb u s && if_served a true false) ≡ false → Goes (if_served a (closes T u) T) table
+    abandon_goes u (Ok v) e = other u None (not_closing u true e refl)
+    abandon_goes u (Err why) e = stays
 
-    act_step : (c : Call K R) (a : Answer R) → Fact T c a → closes_by s c a ≡ false → Goes (feed number T c a) (own_act number s table c a)
+    act_step : (c : Call K R) (a : Told R) → Fact T c a → closes_by s c a ≡ false → Goes (feed number T c a) (own_act number s table c a)
     act_step (call.Begin u n) a f e = begin_goes u a _ f
     act_step (call.Read u j) a f e = stays
     act_step (call.Put u j q) a f e =

@@ -5,12 +5,11 @@ use Rattle.std.proofs.lemmas.Bool.{cond_both, not-true}
 use Rattle.rules.specs.declared.sheet.Mode.{Mode}
 use Rattle.rules.specs.declared.sheet.Reading.{Reading}
 use Rattle.rules.specs.declared.answers.Refusal.TheVariants as refusal
-use Rattle.rules.specs.declared.answers.Answer.{Answer}
 use Rattle.rules.specs.declared.answers.Answer.TheVariants as answer
 use Rattle.rules.specs.declared.answers.Call.{Call}
 use Rattle.rules.specs.declared.answers.Call.TheVariants as call
 use Rattle.rules.specs.Stores.{Store, session_at, opened_at, with_session}
-use Rattle.rules.specs.Outcomes.{Outcome, served, refused, if_open}
+use Rattle.rules.specs.Outcomes.{Told, Outcome, served, refused, if_open}
 use Rattle.rules.specs.Selling.{begin_rule, commit_rule, has_marks, stale}
 use Rattle.versions.specs.History.{Turn, History, turn_writes, feed}
 use Rattle.cells.proofs.Cells.{Whole}
@@ -49,7 +48,7 @@ module _ {K R : Type 0} (number : K → ℕ) where
         cond_both (leb 4000000000 σ.clock) _ _ (TellsCommit s) (λ _. tt)
         (λ _. (o.turn, o.has, inr (ap (λ c. c + 1) w.clock)))))))
 
-  pub fact_of : (σ ρ : Store K R) (T : History R) → Whole number σ T → (c : Call K R) (a : Answer R) → Step number σ c a ρ → Fact T c a
+  pub fact_of : (σ ρ : Store K R) (T : History R) → Whole number σ T → (c : Call K R) (a : Told R) → Step number σ c a ρ → Fact T c a
   fact_of σ ρ T w (call.Begin s m) a e = subst (TellsBegin σ T w s) e (begin_fact σ T w s m)
   fact_of σ ρ T w (call.Read s k) a e = tt
   fact_of σ ρ T w (call.Put s k r) a e = tt

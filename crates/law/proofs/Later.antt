@@ -1,7 +1,7 @@
 -- What comes later writes above the clock, and what is shown at or below it stays.
-use Rattle.std.proofs.Common.{◌≡◌, ℕ, ◌+◌, ◌<◌, ◌≤◌, Bool, true, false, cond, ◌&&◌, ltb, leb, List, [], ◌∷◌, is_some, Some, None, Option, refl, ap, ◌∙◌, inl, inr, arith}
+use Rattle.std.proofs.Common.{◌≡◌, ℕ, ◌+◌, ◌<◌, ◌≤◌, Bool, true, false, cond, ◌&&◌, ltb, leb, List, [], ◌∷◌, is_some, Some, None, Option, refl, ap, ◌∙◌, inl, inr, arith, Ok, Err}
 use Rattle.std.proofs.lemmas.Bool.{cases_lt, le-leb, lt-leb, lt-ltb, or_parts}
-use Rattle.rules.specs.declared.answers.Answer.{Answer}
+use Rattle.rules.specs.Outcomes.{Told}
 use Rattle.rules.specs.declared.answers.Answer.TheVariants as answer
 use Rattle.rules.specs.declared.answers.Call.{Call}
 use Rattle.rules.specs.declared.answers.Call.TheVariants as call
@@ -50,7 +50,7 @@ module _ {R : Type 0} where
           let z : ◌≡◌ {A = ℕ} 0 1 = cc in omega arith)
 
 module _ {K R : Type 0} (number : K → ℕ) where
-  later_step : (T : History R) (c : Call K R) (a : Answer R) → Fact T c a → Later T (feed number T c a)
+  later_step : (T : History R) (c : Call K R) (a : Told R) → Fact T c a → Later T (feed number T c a)
   later_step T (call.Begin s m) a f = by_served (λ (_ : ℕ) U. Later T U) a {x = 0} {y = 0} (calm T _ refl refl) (calm T T refl refl)
   later_step T (call.Read s k) a f = calm T T refl refl
   later_step T (call.Put s k r) a f = by_served (λ (_ : ℕ) U. Later T U) a {x = 0} {y = 0} (calm T _ refl refl) (calm T T refl refl)
@@ -61,15 +61,15 @@ module _ {K R : Type 0} (number : K → ℕ) where
       stale true = calm T _ refl refl
       stale false = calm T T refl refl
 
-      go : (a : Answer R) → CommitFact T s a → Later T (feed_commit T s a)
-      go answer.Done f = calm T T refl refl
-      go (answer.Row o) f = calm T T refl refl
-      go (answer.Was o) f = calm T T refl refl
-      go (answer.At n) f = by_answer T s n (λ _ U. Later T U) f (calm T _ refl refl)
+      go : (a : Told R) → CommitFact T s a → Later T (feed_commit T s a)
+      go (Ok answer.Done) f = calm T T refl refl
+      go (Ok (answer.Row o)) f = calm T T refl refl
+      go (Ok (answer.Was o)) f = calm T T refl refl
+      go (Ok (answer.At n)) f = by_answer T s n (λ _ U. Later T U) f (calm T _ refl refl)
           (record { clock = omega arith; still = λ t k l. rw (lt-leb (T.clock + 1) t (omega arith)) refl })
-      go (answer.Tag n) f = calm T T refl refl
-      go (answer.Swept o) f = calm T T refl refl
-      go (answer.Refused e) f = stale (is_stale e)
+      go (Ok (answer.Tag n)) f = calm T T refl refl
+      go (Ok (answer.Swept o)) f = calm T T refl refl
+      go (Err e) f = stale (is_stale e)
   later_step T (call.Abandon s) a f = by_served (λ (_ : ℕ) U. Later T U) a {x = 0} {y = 0} (calm T _ refl refl) (calm T T refl refl)
   later_step T (call.Choose k) a f = calm T T refl refl
   later_step T (call.Copy t) a f = calm T T refl refl

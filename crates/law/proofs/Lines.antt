@@ -7,12 +7,11 @@ use Rattle.rules.specs.declared.tables.Line.{Line}
 use Rattle.rules.specs.declared.sheet.Mode.{Mode}
 use Rattle.rules.specs.declared.sheet.Reading.{Reading}
 use Rattle.rules.specs.declared.answers.Refusal.TheVariants as refusal
-use Rattle.rules.specs.declared.answers.Answer.{Answer}
 use Rattle.rules.specs.declared.answers.Answer.TheVariants as answer
 use Rattle.rules.specs.declared.answers.Call.{Call}
 use Rattle.rules.specs.declared.answers.Call.TheVariants as call
 use Rattle.rules.specs.Stores.{Store, session_at, opened_at, with_session, with_finds, hot_full, memo_full, ledger_full}
-use Rattle.rules.specs.Outcomes.{Outcome, served, refused, if_open}
+use Rattle.rules.specs.Outcomes.{Told, Outcome, served, refused, if_open}
 use Rattle.rules.specs.Looking.{Seen, hot_one, cold_one, nothing, conflict, looked}
 use Rattle.rules.specs.Selling.{begin_rule, read_rule, put_rule, drop_rule, commit_rule, abandon_rule, is_checked, line_for, line_stays, new_line, hot_own, wants_notice, end_seen, has_marks, stale}
 use Rattle.law.specs.Runs.{Event, Step, Runs, by_seller}
@@ -105,11 +104,11 @@ module _ {K R : Type 0} (number : K → ℕ) where
         (session_ok (Stays (call.Abandon u)) σ _ u _ (λ _. h) (λ _. h) (λ r l e c. closed_has u (not_closed u c)))
 
   -- calls of movers leave the ledger
-  move_line : (σ ρ : Store K R) (s k : ℕ) (c : Call K R) (a : Answer R) → by_seller c ≡ false
+  move_line : (σ ρ : Store K R) (s k : ℕ) (c : Call K R) (a : Told R) → by_seller c ≡ false
       → any (line_for number s k) σ.ledger ≡ true → Step number σ c a ρ → any (line_for number s k) ρ.ledger ≡ true
   move_line σ ρ s k c a moves h e = ap (any (line_for number s k)) (ledger_stays number σ c a ρ moves e).1 ∙ h
 
-  step_line : (σ ρ : Store K R) (s k : ℕ) (c : Call K R) (a : Answer R) → any (line_for number s k) σ.ledger ≡ true
+  step_line : (σ ρ : Store K R) (s k : ℕ) (c : Call K R) (a : Told R) → any (line_for number s k) σ.ledger ≡ true
       → Step number σ c a ρ → closes_by s c a ≡ false → any (line_for number s k) ρ.ledger ≡ true
   step_line σ ρ s k (call.Begin u m) a h e = subst (Stays σ s k h (call.Begin u m)) e (begin_line σ s k h u m)
   step_line σ ρ s k (call.Read u j) a h e = subst (Stays σ s k h (call.Read u j)) e (read_line σ s k h u j)

@@ -1,6 +1,6 @@
 -- What the answers of a checked session tell: a read or drop, of the history at its read time and of its ledger lines; a commit,
 -- that no key of its lines was written since.
-use Rattle.std.proofs.Common.{◌≡◌, ℕ, ◌+◌, Bool, true, false, cond, not, ◌&&◌, ◌||◌, eqb, leb, ◌⊎◌, List, ◌++◌, is_some, Some, Option, sym, refl, ap, ◌∙◌, subst, inl, inr, arith}
+use Rattle.std.proofs.Common.{◌≡◌, ℕ, ◌+◌, Bool, true, false, cond, not, ◌&&◌, ◌||◌, eqb, leb, ◌⊎◌, List, ◌++◌, is_some, Some, Option, sym, refl, ap, ◌∙◌, subst, inl, inr, arith, Ok, Err}
 use Rattle.std.proofs.lemmas.Bool.{cond_both, eqb-true, eq-eqb, and_parts}
 use Rattle.slots.specs.Lists.{any, one}
 use Rattle.slots.proofs.Folds.{any_append, none_all, first_some, spot}
@@ -9,10 +9,9 @@ use Rattle.rules.specs.declared.sheet.Mode.{Mode}
 use Rattle.rules.specs.declared.sheet.Mode.TheVariants.{Checked}
 use Rattle.rules.specs.declared.sheet.Reading.{Reading}
 use Rattle.rules.specs.declared.answers.Refusal.{Refusal}
-use Rattle.rules.specs.declared.answers.Answer.{Answer}
 use Rattle.rules.specs.declared.answers.Answer.TheVariants as answer
 use Rattle.rules.specs.Stores.{Store, session_at, with_finds, memo_full, ledger_full}
-use Rattle.rules.specs.Outcomes.{Outcome}
+use Rattle.rules.specs.Outcomes.{Told, Outcome}
 use Rattle.rules.specs.Looking.{conflict, above, looked, row_of}
 use Rattle.rules.specs.Selling.{read_rule, drop_rule, commit_rule, is_checked, line_for, new_line, hot_own, wants_notice, has_marks, stale_line, stale}
 use Rattle.versions.specs.Writes.{over}
@@ -28,22 +27,22 @@ use Rattle.cells.proofs.Traces.{above_is}
 use Rattle.law.proofs.Steps.{lent_own, session_ok}
 use Rattle.law.proofs.Lines.{end_ledger}
 
-no_row : {R A : Type 0} (e : Refusal) (row : Option R) → ◌≡◌ {A = Answer R} (answer.Refused e) (answer.Row row) → A
+no_row : {R A : Type 0} (e : Refusal) (row : Option R) → ◌≡◌ {A = Told R} (Err e) (Ok (answer.Row row)) → A
 no_row e row p = absurd (let z : ◌≡◌ {A = ℕ} 0 1 = cc in omega arith)
 
-same_row : {R : Type 0} (a c : Option R) → ◌≡◌ {A = Answer R} (answer.Row a) (answer.Row c) → c ≡ a
+same_row : {R : Type 0} (a c : Option R) → ◌≡◌ {A = Told R} (Ok (answer.Row a)) (Ok (answer.Row c)) → c ≡ a
 same_row a c p = let q : a ≡ c = cc in sym q
 
-no_was : {R A : Type 0} (e : Refusal) (was : Bool) → ◌≡◌ {A = Answer R} (answer.Refused e) (answer.Was was) → A
+no_was : {R A : Type 0} (e : Refusal) (was : Bool) → ◌≡◌ {A = Told R} (Err e) (Ok (answer.Was was)) → A
 no_was e was p = absurd (let z : ◌≡◌ {A = ℕ} 0 1 = cc in omega arith)
 
-same_was : {R : Type 0} (a c : Bool) → ◌≡◌ {A = Answer R} (answer.Was a) (answer.Was c) → c ≡ a
+same_was : {R : Type 0} (a c : Bool) → ◌≡◌ {A = Told R} (Ok (answer.Was a)) (Ok (answer.Was c)) → c ≡ a
 same_was a c p = let q : a ≡ c = cc in sym q
 
-no_at : {R A : Type 0} (e : Refusal) (n : ℕ) → ◌≡◌ {A = Answer R} (answer.Refused e) (answer.At n) → A
+no_at : {R A : Type 0} (e : Refusal) (n : ℕ) → ◌≡◌ {A = Told R} (Err e) (Ok (answer.At n)) → A
 no_at e n p = absurd (let z : ◌≡◌ {A = ℕ} 0 1 = cc in omega arith)
 
-same_at : {R : Type 0} (a c : ℕ) → ◌≡◌ {A = Answer R} (answer.At a) (answer.At c) → c ≡ a
+same_at : {R : Type 0} (a c : ℕ) → ◌≡◌ {A = Told R} (Ok (answer.At a)) (Ok (answer.At c)) → c ≡ a
 same_at a c p = let q : a ≡ c = cc in sym q
 
 or_last : (x y : Bool) → y ≡ true → (x || y) ≡ true
@@ -90,7 +89,7 @@ module _ {K R : Type 0} (number : K → ℕ) where
         ∙ ap (λ t. over (turn_writes (T.turn s) k) (shown T.commits t k)) (sym (read_time number σ T w s r e))
 
     abbrev pub ReadTells : K → Outcome K R → Type 0
-    ReadTells key z = (row : Option R) → z.answer ≡ answer.Row row
+    ReadTells key z = (row : Option R) → z.answer ≡ Ok (answer.Row row)
         → (row ≡ sight (number key)) × (any (line_for number s (number key)) z.after.ledger ≡ true)
 
     pub read_tells : (key : K) → ReadTells key (read_rule number σ.lengths σ s key)
@@ -100,7 +99,7 @@ module _ {K R : Type 0} (number : K → ℕ) where
         (λ _ row p. (same_row _ row p ∙ sees r (number key) e, lined number σ.ledger r.mode s key (its_mode r e)))))
 
     abbrev pub DropTells : K → Outcome K R → Type 0
-    DropTells key z = (was : Bool) → z.answer ≡ answer.Was was
+    DropTells key z = (was : Bool) → z.answer ≡ Ok (answer.Was was)
         → (was ≡ is_some (sight (number key))) × (any (line_for number s (number key)) z.after.ledger ≡ true)
 
     own_seen : (r : Reading) (key : K) → (session_at σ.sessions s).reading ≡ Some r → conflict number σ s r.time (number key) ≡ false
@@ -129,7 +128,7 @@ module _ {K R : Type 0} (number : K → ℕ) where
 
     -- a commit that answers a stamp found no key of the session's lines written since its read time
     abbrev CommitTells : Outcome K R → Type 0
-    CommitTells z = (n : ℕ) → z.answer ≡ answer.At n
+    CommitTells z = (n : ℕ) → z.answer ≡ Ok (answer.At n)
         → (n ≡ 0) ⊎ ((n ≡ T.clock + 1)
         × ((k : ℕ) → any (line_for number s k) σ.ledger ≡ true → wrote_above T.commits (turn_read (T.turn s)) k ≡ false))
 

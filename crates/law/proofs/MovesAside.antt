@@ -8,12 +8,11 @@ use Rattle.rules.specs.declared.tables.HotRow.{HotRow}
 use Rattle.rules.specs.declared.tables.Notice.{Notice}
 use Rattle.rules.specs.declared.tables.Kind.{Kind}
 use Rattle.rules.specs.declared.notices.NoticeEvent.TheVariants.{Empty}
-use Rattle.rules.specs.declared.answers.Answer.{Answer}
 use Rattle.rules.specs.declared.answers.Call.{Call}
 use Rattle.rules.specs.declared.answers.Call.TheVariants as call
 use Rattle.rules.specs.Notices.{becomes}
 use Rattle.rules.specs.Stores.{Store, with_admits, memo_full}
-use Rattle.rules.specs.Outcomes.{Outcome}
+use Rattle.rules.specs.Outcomes.{Told, Outcome}
 use Rattle.rules.specs.Moving.{choose_row, copy_row, copy_put, settle_row, sweep_notice, sweep_kind, movable, row_chosen, row_copied, row_bears, unmoved, due}
 use Rattle.versions.specs.History.{History, feed}
 use Rattle.law.specs.Runs.{Step, by_seller}
@@ -52,7 +51,7 @@ module _ {K R : Type 0} (number : K → ℕ) where
         go None = (refl, refl)
         go (Some kind) = (refl, refl)
 
-    pub ledger_stays : (c : Call K R) (a : Answer R) (ρ : Store K R) → by_seller c ≡ false → Step number σ c a ρ
+    pub ledger_stays : (c : Call K R) (a : Told R) (ρ : Store K R) → by_seller c ≡ false → Step number σ c a ρ
         → (ρ.lengths.lines ≡ σ.lengths.lines) × (ρ.ledger ≡ σ.ledger)
     ledger_stays (call.Begin s m) a ρ h e = absurd (true≢false h)
     ledger_stays (call.Read s k) a ρ h e = absurd (true≢false h)
@@ -70,7 +69,7 @@ module _ {K R : Type 0} (number : K → ℕ) where
     ledger_stays call.Sweep a ρ h e = subst Leaves e (lent_own Leaves _ σ _ _ (sweep_leaves (first (due σ) σ.memo)))
     ledger_stays call.Collect a ρ h e = subst Leaves e (lent_own Leaves _ σ _ _ (refl, refl))
 
-  pub history_stays : (T : History R) (c : Call K R) (a : Answer R) → by_seller c ≡ false → feed number T c a ≡ T
+  pub history_stays : (T : History R) (c : Call K R) (a : Told R) → by_seller c ≡ false → feed number T c a ≡ T
   history_stays T (call.Begin s m) a h = absurd (true≢false h)
   history_stays T (call.Read s k) a h = absurd (true≢false h)
   history_stays T (call.Put s k r) a h = absurd (true≢false h)

@@ -1,29 +1,23 @@
 -- The single table of the statements against the history of the proofs: two accounts of the same seller calls.
-use Rattle.std.proofs.Common.{◌≡◌, ℕ, ◌+◌, ◌≤◌, Bool, true, false, cond, eqb, ◌⊎◌, List, [], ◌∷◌, Some, None, Option, refl, subst, inl, inr, arith}
+use Rattle.std.proofs.Common.{◌≡◌, ℕ, ◌+◌, ◌≤◌, Bool, true, false, cond, eqb, ◌⊎◌, List, [], ◌∷◌, Some, None, Option, refl, subst, inl, inr, arith, Ok, Err}
 use Rattle.std.specs.List.{AllByRecursion as All}
 use Rattle.std.proofs.ByRecursion.{All-weaker}
 use Rattle.std.proofs.lemmas.Bool.{eqb-true, eq-eqb, ne_eqb, le-leb}
 use Rattle.rules.specs.declared.sheet.Mode.{Mode}
-use Rattle.rules.specs.declared.answers.Answer.{Answer}
 use Rattle.rules.specs.declared.answers.Answer.TheVariants as answer
 use Rattle.rules.specs.declared.answers.Call.{Call}
 use Rattle.rules.specs.declared.answers.Call.TheVariants as call
-use Rattle.rules.specs.Outcomes.{if_served}
+use Rattle.rules.specs.Outcomes.{Told, if_served}
 use Rattle.rules.specs.Refusals.{is_stale}
 use Rattle.versions.specs.Writes.{no_writes, upd}
 use Rattle.versions.specs.History.{Commit, Turn, History, shown, with_turn, wrote, begins, closes, commits_at, feed, feed_commit, fresh}
 use Rattle.law.specs.Runs.{Event}
 
 -- Served or not: what holds of both ways holds of the answer's way.
-pub by_served : {R X Y : Type 0} (P : X → Y → Type 0) (a : Answer R) {x y : X} {u v : Y}
+pub by_served : {R X Y : Type 0} (P : X → Y → Type 0) (a : Told R) {x y : X} {u v : Y}
     → P x u → P y v → P (if_served a x y) (if_served a u v)
-by_served P answer.Done p q = p
-by_served P (answer.Row o) p q = p
-by_served P (answer.Was o) p q = p
-by_served P (answer.At n) p q = p
-by_served P (answer.Tag n) p q = p
-by_served P (answer.Swept o) p q = p
-by_served P (answer.Refused e) p q = q
+by_served P (Ok v) p q = p
+by_served P (Err e) p q = q
 
 pub upd_at : {Y : Type 0} (f : ℕ → Y) (s u : ℕ) (y : Y) (P : ℕ → Y → Type 0)
     → (u ≡ s → P u y) → ((u ≡ s → ⊥) → P u (f u)) → P u (upd f s y u)
@@ -39,28 +33,23 @@ module _ {R : Type 0} where
   Answered T s n =
       (y : Turn R) × (T.turn s ≡ Some y) × (((n ≡ 0) × ((k : ℕ) → y.writes k ≡ None)) ⊎ (n ≡ T.clock + 1))
 
-  abbrev pub CommitFact : History R → ℕ → Answer R → Type 0
-  CommitFact T s answer.Done = Unit {0}
-  CommitFact T s (answer.Row o) = Unit {0}
-  CommitFact T s (answer.Was o) = Unit {0}
-  CommitFact T s (answer.At n) = Answered T s n
-  CommitFact T s (answer.Tag n) = Unit {0}
-  CommitFact T s (answer.Swept o) = Unit {0}
-  CommitFact T s (answer.Refused e) = Unit {0}
+  abbrev pub CommitFact : History R → ℕ → Told R → Type 0
+  CommitFact T s (Ok answer.Done) = Unit {0}
+  CommitFact T s (Ok (answer.Row o)) = Unit {0}
+  CommitFact T s (Ok (answer.Was o)) = Unit {0}
+  CommitFact T s (Ok (answer.At n)) = Answered T s n
+  CommitFact T s (Ok (answer.Tag n)) = Unit {0}
+  CommitFact T s (Ok (answer.Swept o)) = Unit {0}
+  CommitFact T s (Err e) = Unit {0}
 
   -- a begin is served to a session that is not open
-  abbrev pub BeginFact : History R → ℕ → Answer R → Type 0
-  BeginFact T s answer.Done = T.turn s ≡ None
-  BeginFact T s (answer.Row o) = T.turn s ≡ None
-  BeginFact T s (answer.Was o) = T.turn s ≡ None
-  BeginFact T s (answer.At n) = T.turn s ≡ None
-  BeginFact T s (answer.Tag n) = T.turn s ≡ None
-  BeginFact T s (answer.Swept o) = T.turn s ≡ None
-  BeginFact T s (answer.Refused e) = Unit {0}
+  abbrev pub BeginFact : History R → ℕ → Told R → Type 0
+  BeginFact T s (Ok v) = T.turn s ≡ None
+  BeginFact T s (Err e) = Unit {0}
 
 module _ {K R : Type 0} where
   -- what an event tells of the history that it meets
-  abbrev pub Fact : History R → Call K R → Answer R → Type 0
+  abbrev pub Fact : History R → Call K R → Told R → Type 0
   Fact T (call.Begin s m) a = BeginFact T s a
   Fact T (call.Read s k) a = Unit {0}
   Fact T (call.Put s k r) a = Unit {0}
@@ -155,7 +144,7 @@ module _ {R : Type 0} where
   ]
 
 module _ {K R : Type 0} (number : K → ℕ) where
-  pub past_step : (T : History R) (c : Call K R) (a : Answer R) → Past T → Fact T c a → Past (feed number T c a)
+  pub past_step : (T : History R) (c : Call K R) (a : Told R) → Past T → Fact T c a → Past (feed number T c a)
   past_step T (call.Begin s m) a p f = by_served (λ (_ : ℕ) U. Past U) a {x = 0} {y = 0} (past_begin T s m p) p
   past_step T (call.Read s k) a p f = p
   past_step T (call.Put s k r) a p f = by_served (λ (_ : ℕ) U. Past U) a {x = 0} {y = 0} (past_write T s (number k) _ p) p
@@ -166,14 +155,14 @@ module _ {K R : Type 0} (number : K → ℕ) where
       stale true = past_close T s p
       stale false = p
 
-      go : (a : Answer R) → CommitFact T s a → Past (feed_commit T s a)
-      go answer.Done f = p
-      go (answer.Row o) f = p
-      go (answer.Was o) f = p
-      go (answer.At n) f = by_answer T s n (λ _ U. Past U) f (past_close T s p) (past_commit T s p)
-      go (answer.Tag n) f = p
-      go (answer.Swept o) f = p
-      go (answer.Refused e) f = stale (is_stale e)
+      go : (a : Told R) → CommitFact T s a → Past (feed_commit T s a)
+      go (Ok answer.Done) f = p
+      go (Ok (answer.Row o)) f = p
+      go (Ok (answer.Was o)) f = p
+      go (Ok (answer.At n)) f = by_answer T s n (λ _ U. Past U) f (past_close T s p) (past_commit T s p)
+      go (Ok (answer.Tag n)) f = p
+      go (Ok (answer.Swept o)) f = p
+      go (Err e) f = stale (is_stale e)
   past_step T (call.Abandon s) a p f = by_served (λ (_ : ℕ) U. Past U) a {x = 0} {y = 0} (past_close T s p) p
   past_step T (call.Choose k) a p f = p
   past_step T (call.Copy t) a p f = p

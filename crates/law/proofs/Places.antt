@@ -1,10 +1,10 @@
 -- The writes of the sessions placed earlier, carried out in turn, leave what the history shows just before the place.
-use Rattle.std.proofs.Common.{◌≡◌, ℕ, ◌+◌, ◌*◌, ◌<◌, Bool, true, false, cond, ltb, leb, List, [], ◌∷◌, ◌++◌, None, Option, sym, refl, ap, ◌∙◌, subst, inl, inr, append_assoc, append-nil, arith}
+use Rattle.std.proofs.Common.{◌≡◌, ℕ, ◌+◌, ◌*◌, ◌<◌, Bool, true, false, cond, ltb, leb, List, [], ◌∷◌, ◌++◌, None, Option, sym, refl, ap, ◌∙◌, subst, inl, inr, append_assoc, append-nil, arith, Ok, Err}
 use Rattle.std.specs.List.{AllByRecursion as All}
 use Rattle.std.proofs.ByRecursion.{All-weaker, All-append, all_kept_by}
 use Rattle.std.proofs.lemmas.Bool.{ne_eqb, lt-leb}
 use Rattle.std.proofs.lemmas.Bool.Decides.{nat_tests}
-use Rattle.rules.specs.declared.answers.Answer.{Answer}
+use Rattle.rules.specs.Outcomes.{Told}
 use Rattle.rules.specs.declared.answers.Answer.TheVariants as answer
 use Rattle.rules.specs.declared.answers.Call.{Call}
 use Rattle.rules.specs.declared.answers.Call.TheVariants as call
@@ -172,25 +172,25 @@ module _ {K R : Type 0} (number : K → ℕ) where
     calm U uc um = subst (λ z. Placing z U) (sym (append-nil cs)) (placing_same cs T U uc um g)
 
     commit_place : (s n : ℕ) → Answered T s n
-        → Placing (cs ++ placed_commit x s (answer.At n)) (feed_commit T s (answer.At n))
+        → Placing (cs ++ placed_commit x s (Ok (answer.At n))) (feed_commit T s (Ok (answer.At n)))
     commit_place s n f = elim f.2 [ inl z ↦ idle z.0 z.1 | inr z ↦ stamp z ]
       where
         visit : ((x.visit s).read ≡ f.0.read) × ((k : ℕ) → (x.visit s).writes k ≡ f.0.writes k)
         visit = let v = subst (λ o. Visits (x.visit s) T.commits o) f.1 (e.visit s) in (v.0, v.1)
 
-        idle : n ≡ 0 → ((k : ℕ) → f.0.writes k ≡ None) → Placing (cs ++ placed_commit x s (answer.At n)) (feed_commit T s (answer.At n))
+        idle : n ≡ 0 → ((k : ℕ) → f.0.writes k ≡ None) → Placing (cs ++ placed_commit x s (Ok (answer.At n))) (feed_commit T s (Ok (answer.At n)))
         idle z w = rw z (placing_same (cs ++ one (record { at = place (x.visit s).read 0; writes = (x.visit s).writes })) T (closes T s) refl refl
             (placing_idle cs T (record { at = place (x.visit s).read 0; writes = (x.visit s).writes }) g
             (let l = p.reads s f.0 f.1 in let r = visit.0 in omega arith)
             (λ k. visit.1 k ∙ w k)))
 
-        stamp : n ≡ T.clock + 1 → Placing (cs ++ placed_commit x s (answer.At n)) (feed_commit T s (answer.At n))
+        stamp : n ≡ T.clock + 1 → Placing (cs ++ placed_commit x s (Ok (answer.At n))) (feed_commit T s (Ok (answer.At n)))
         stamp z = rw (z, ne_eqb (T.clock + 1) 0 (λ w. omega arith))
             (placing_stamp cs T (record { at = 2 * (T.clock + 1); writes = (x.visit s).writes })
             (record { stamp = T.clock + 1; writes = turn_writes (T.turn s) }) g refl refl
             (λ k. visit.1 k ∙ ap (λ o. turn_writes o k) (sym f.1)) (commits_at T s (T.clock + 1)) refl refl)
 
-    pub placing_step : (c : Call K R) (a : Answer R) → Fact T c a → Placing (cs ++ placed_by x c a) (feed number T c a)
+    pub placing_step : (c : Call K R) (a : Told R) → Fact T c a → Placing (cs ++ placed_by x c a) (feed number T c a)
     placing_step (call.Begin s m) a f = by_served (λ (_ : ℕ) U. Placing (cs ++ []) U) a {x = 0} {y = 0} (calm _ refl refl) (calm T refl refl)
     placing_step (call.Read s k) a f = calm T refl refl
     placing_step (call.Put s k r) a f = by_served (λ (_ : ℕ) U. Placing (cs ++ []) U) a {x = 0} {y = 0} (calm _ refl refl) (calm T refl refl)
@@ -201,14 +201,14 @@ module _ {K R : Type 0} (number : K → ℕ) where
         stale true = calm _ refl refl
         stale false = calm T refl refl
 
-        go : (a : Answer R) → CommitFact T s a → Placing (cs ++ placed_commit x s a) (feed_commit T s a)
-        go answer.Done f = calm T refl refl
-        go (answer.Row o) f = calm T refl refl
-        go (answer.Was o) f = calm T refl refl
-        go (answer.At n) f = commit_place s n f
-        go (answer.Tag n) f = calm T refl refl
-        go (answer.Swept o) f = calm T refl refl
-        go (answer.Refused w) f = stale (is_stale w)
+        go : (a : Told R) → CommitFact T s a → Placing (cs ++ placed_commit x s a) (feed_commit T s a)
+        go (Ok answer.Done) f = calm T refl refl
+        go (Ok (answer.Row o)) f = calm T refl refl
+        go (Ok (answer.Was o)) f = calm T refl refl
+        go (Ok (answer.At n)) f = commit_place s n f
+        go (Ok (answer.Tag n)) f = calm T refl refl
+        go (Ok (answer.Swept o)) f = calm T refl refl
+        go (Err w) f = stale (is_stale w)
     placing_step (call.Abandon s) a f = by_served (λ (_ : ℕ) U. Placing (cs ++ []) U) a {x = 0} {y = 0} (calm _ refl refl) (calm T refl refl)
     placing_step (call.Choose k) a f = calm T refl refl
     placing_step (call.Copy t) a f = calm T refl refl

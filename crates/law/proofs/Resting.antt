@@ -1,5 +1,5 @@
 -- A store at rest: no session is open, and no row is on the move. Its horizon is its clock, and every notice is due.
-use Rattle.std.proofs.Common.{◌≡◌, ℕ, suc, Bool, true, false, not, ◌&&◌, ◌||◌, eqb, List, [], ◌∷◌, None, sym, refl, ap, ◌∙◌, subst, inl, inr, arith, Some, Option}
+use Rattle.std.proofs.Common.{◌≡◌, ℕ, suc, Bool, true, false, not, ◌&&◌, ◌||◌, eqb, List, [], ◌∷◌, None, sym, refl, ap, ◌∙◌, subst, inl, inr, arith, Some, Option, unwrap_or}
 use Rattle.std.specs.List.{AllByRecursion as All}
 use Rattle.std.proofs.lemmas.Bool.{cases_Bool, both_ways, not-false, not_from_false, eq-eqb, or_parts}
 use Rattle.std.proofs.lemmas.Bool.Decides.{nat_tests}
@@ -13,7 +13,7 @@ use Rattle.rules.specs.declared.tables.MoveMark.TheVariants.{Unmoved, Chosen, Co
 use Rattle.rules.specs.declared.tables.Notice.{Notice}
 use Rattle.rules.specs.declared.sheet.Session.{Session}
 use Rattle.cold.specs.Cold.{Entry}
-use Rattle.rules.specs.Horizon.{lesser, least_time, or_clock}
+use Rattle.rules.specs.Horizon.{lesser, least_time}
 use Rattle.rules.specs.Looking.{is_for, above}
 use Rattle.rules.specs.Moving.{bears, unmoved, row_bears, due}
 use Rattle.rules.specs.Notices.{due_kind}
@@ -118,7 +118,7 @@ module _ {K R : Type 0} where
 
 module _ {K R : Type 0} (number : K → ℕ) (σ : Store K R) (T : History R) (w : Whole number σ T) (rest : Resting σ) where
   pub horizon_clock : horizon_of σ ≡ σ.clock
-  horizon_clock = ap (λ o. or_clock o σ.clock) (no_times σ.sessions rest.shut)
+  horizon_clock = ap (λ o. unwrap_or o σ.clock) (no_times σ.sessions rest.shut)
 
   -- no mark is left, and no stamp is above the clock
   unmarked : (s : ℕ) → has_marks σ s ≡ false

@@ -1,6 +1,6 @@
 -- One seller call to each of two twins: they answer alike, and their ledgers say the same after, unless one of them refuses
 -- for a full hot table or memo.
-use Rattle.std.proofs.Common.{◌≡◌, ℕ, ◌+◌, Bool, true, false, cond, not, ◌&&◌, ltb, leb, is_some, Some, None, Option, sym, refl, ap, ◌∙◌}
+use Rattle.std.proofs.Common.{◌≡◌, ℕ, ◌+◌, Bool, true, false, cond, not, ◌&&◌, ltb, leb, is_some, Some, None, Option, sym, refl, ap, ◌∙◌, Ok}
 use Rattle.std.proofs.lemmas.Bool.{cond_both, true≢false, false≢true}
 use Rattle.slots.specs.Lists.{any}
 use Rattle.slots.proofs.Folds.{first_some}
@@ -10,12 +10,11 @@ use Rattle.rules.specs.declared.answers.Side.{Side}
 use Rattle.rules.specs.declared.answers.Side.TheVariants.{Seller}
 use Rattle.rules.specs.declared.answers.Refusal.{Refusal}
 use Rattle.rules.specs.declared.answers.Refusal.TheVariants as refusal
-use Rattle.rules.specs.declared.answers.Answer.{Answer}
 use Rattle.rules.specs.declared.answers.Answer.TheVariants as answer
 use Rattle.rules.specs.declared.answers.Call.{Call}
 use Rattle.rules.specs.declared.answers.Call.TheVariants as call
 use Rattle.rules.specs.Stores.{Store, session_at, opened_at, with_session, with_finds, hot_full, memo_full, ledger_full}
-use Rattle.rules.specs.Outcomes.{Outcome, served, refused, untold, if_open, if_lent, for_session}
+use Rattle.rules.specs.Outcomes.{Told, Outcome, served, refused, untold, if_open, if_lent, for_session}
 use Rattle.rules.specs.Looking.{conflict, Seen, hot_one, cold_one, nothing, Looked, looked}
 use Rattle.rules.specs.Selling.{begin_rule, read_rule, put_rule, drop_rule, commit_rule, abandon_rule, new_line, noted, hot_own, wants_notice, end_seen, replace_own, drop_own, put_seen, drop_seen}
 use Rattle.versions.specs.History.{History, over, shown, turn_writes}
@@ -46,16 +45,16 @@ module _ {K R : Type 0} (number : K → ℕ) where
   both_ways false false e hit miss = miss refl
 
   -- of one outcome: unless it is a refusal for want of room, it answers a, and its ledger says what that of ρ says
-  record Gives (z : Outcome K R) (a : Answer R) (ρ : Store K R) : Type 0 where
+  record Gives (z : Outcome K R) (a : Told R) (ρ : Store K R) : Type 0 where
     unless_short : cramped z.answer ≡ false → (z.answer ≡ a) × SameLedger number z.after ρ
 
-  short : {z : Outcome K R} {a : Answer R} {ρ : Store K R} → cramped z.answer ≡ true → Gives z a ρ
+  short : {z : Outcome K R} {a : Told R} {ρ : Store K R} → cramped z.answer ≡ true → Gives z a ρ
   short h = record { unless_short = λ g. absurd (true≢false (sym h ∙ g)) }
 
-  gives : {z : Outcome K R} {a : Answer R} {ρ : Store K R} → z.answer ≡ a → SameLedger number z.after ρ → Gives z a ρ
+  gives : {z : Outcome K R} {a : Told R} {ρ : Store K R} → z.answer ≡ a → SameLedger number z.after ρ → Gives z a ρ
   gives e l = record { unless_short = λ _. (e, l) }
 
-  both_give : {x y : Outcome K R} {a : Answer R} {σ τ : Store K R} → Gives x a σ → Gives y a τ → SameLedger number σ τ → AlikeBoth x y
+  both_give : {x y : Outcome K R} {a : Told R} {σ τ : Store K R} → Gives x a σ → Gives y a τ → SameLedger number σ τ → AlikeBoth x y
   both_give g h l = record {
     unless_cramped = λ p q.
         let x = g.unless_short p in
@@ -89,9 +88,9 @@ module _ {K R : Type 0} (number : K → ℕ) where
         → Gives
         (cond (any (hot_own number s k) σ.hot) (served answer.Done (replace_own number (untold σ) s key row))
         (cond (hot_full σ) (refused refusal.HotFull (untold σ)) (put_seen number σ s r.time key row found)))
-        answer.Done σ
+        (Ok answer.Done) σ
     put_gives row =
-        let P : Outcome K R → Type 0 = λ z. Gives z answer.Done σ in
+        let P : Outcome K R → Type 0 = λ z. Gives z (Ok answer.Done) σ in
         cond_both (any (hot_own number s k) σ.hot) _ _ P (λ _. gives refl (refl, refl)) (λ _.
         cond_both (hot_full σ) _ _ P (λ _. short refl) (λ _.
         cond_both (wants_notice number σ k found.seen && memo_full σ) _ _ P (λ _. short refl)
@@ -111,13 +110,13 @@ module _ {K R : Type 0} (number : K → ℕ) where
         Gives
         (cond (any (hot_own number s k) σ.hot) (served (answer.Was true) (noted number (drop_own number (untold σ) s key) r.mode s key))
         (drop_seen number σ r.mode s r.time key found))
-        (answer.Was (is_some known)) (noted number σ r.mode s key)
+        (Ok (answer.Was (is_some known))) (noted number σ r.mode s key)
     drop_gives =
-        let P : Outcome K R → Type 0 = λ z. Gives z (answer.Was (is_some known)) (noted number σ r.mode s key) in
+        let P : Outcome K R → Type 0 = λ z. Gives z (Ok (answer.Was (is_some known))) (noted number σ r.mode s key) in
         cond_both (any (hot_own number s k) σ.hot) _ _ P
-        (λ own. gives (ap answer.Was (sym (own_known own))) (refl, refl)) (λ _.
+        (λ own. gives (ap (λ z. Ok (answer.Was z)) (sym (own_known own))) (refl, refl)) (λ _.
         cond_both (wants_notice number σ k found.seen && memo_full σ) _ _ P (λ _. short refl)
-        (λ _. gives (ap (λ z. answer.Was (is_some z)) (lookup_is number σ T w s r k reads)) (same_noted number ended σ ended_same r.mode s key)))
+        (λ _. gives (ap (λ z. Ok (answer.Was (is_some z))) (lookup_is number σ T w s r k reads)) (same_noted number ended σ ended_same r.mode s key)))
 
   module _ {σ τ : Store K R} {T : History R} (twins : Twins number σ τ T) where
     -- both refuse
@@ -163,7 +162,7 @@ module _ {K R : Type 0} (number : K → ℕ) where
     read_both : (s : ℕ) (key : K) → AlikeBoth (read_rule number σ.lengths σ s key) (read_rule number τ.lengths τ s key)
     read_both s key = both_open s _ _ _ _ twins.ledger (λ r reads.
         both_ways _ _ (no_slot r.mode s (number key)) (λ _. refuse_untold refusal.LedgerFull)
-        (λ _. both (ap answer.Row (same_row number twins s r reads (number key))) (same_noted number σ τ twins.ledger r.mode s key)))
+        (λ _. both (ap (λ z. Ok (answer.Row z)) (same_row number twins s r reads (number key))) (same_noted number σ τ twins.ledger r.mode s key)))
 
     put_both : (s : ℕ) (key : K) (row : R) → AlikeBoth (put_rule number σ.lengths σ s key row) (put_rule number τ.lengths τ s key row)
     put_both s key row = both_open s _ _ _ _ twins.ledger (λ r reads.
@@ -187,13 +186,13 @@ module _ {K R : Type 0} (number : K → ℕ) where
         both_ways _ _ (ap not (same_marks number twins s)) (λ _. both refl shut)
         (λ _. both_ways _ _ (same_stale number twins s r reads) (λ _. both refl shut)
         (λ _. both_ways _ _ (ap (leb 4000000000) (same_clock number twins)) (λ _. refuse refusal.ClockAtEnd)
-        (λ _. both (ap (λ z. answer.At (z + 1)) (same_clock number twins)) shut))))
+        (λ _. both (ap (λ z. Ok (answer.At (z + 1))) (same_clock number twins)) shut))))
 
     abandon_both : (s : ℕ) → AlikeBoth (abandon_rule σ.lengths σ s) (abandon_rule τ.lengths τ s)
     abandon_both s = both_open s _ _ _ _ twins.ledger (λ r reads. both refl (same_close number σ τ twins.ledger s))
 
     -- whatever the seller call
-    pub step_both : (c : Call K R) → by_seller c ≡ true → (a d : Answer R) (σ_next τ_next : Store K R)
+    pub step_both : (c : Call K R) → by_seller c ≡ true → (a d : Told R) (σ_next τ_next : Store K R)
         → Step number σ c a σ_next → Step number τ c d τ_next → AlikeBoth (answering a σ_next) (answering d τ_next)
     step_both (call.Begin s m) h a d σ_next τ_next e f = rw (sym e, sym f) (begin_both s m)
     step_both (call.Read s k) h a d σ_next τ_next e f = rw (sym e, sym f) (read_both s k)

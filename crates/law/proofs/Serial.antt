@@ -1,6 +1,6 @@
 -- Every served read and drop of a committed checked session answers as the single table does after the sessions placed
 -- earlier, then the session's own puts and drops before it.
-use Rattle.std.proofs.Common.{◌≡◌, ℕ, ◌+◌, ◌*◌, ◌≤◌, Bool, true, false, cond, ◌⊎◌, List, [], ◌∷◌, ◌++◌, is_some, Some, None, Option, sym, refl, ap, ◌∙◌, subst, inl, inr, arith}
+use Rattle.std.proofs.Common.{◌≡◌, ℕ, ◌+◌, ◌*◌, ◌≤◌, Bool, true, false, cond, ◌⊎◌, List, [], ◌∷◌, ◌++◌, is_some, Some, None, Option, sym, refl, ap, ◌∙◌, subst, inl, inr, arith, Ok}
 use Rattle.std.proofs.lemmas.Bool.{eq-eqb, ne_eqb, or_parts}
 use Rattle.slots.specs.Lists.{any}
 use Rattle.slots.proofs.Folds.{any_append}
@@ -95,7 +95,7 @@ module _ (K R : Type 0) (number : K → ℕ) (o : Opening) (served : Served o) (
     facts_begun = facts_here.1
 
     past₁ : Past T₁
-    past₁ = past_step number T₀ (call.Begin s Checked) answer.Done past₀ facts_begun.0
+    past₁ = past_step number T₀ (call.Begin s Checked) (Ok answer.Done) past₀ facts_begun.0
 
     facts_work : Facts number T₁ work × Facts number T₄ (commit_of s n ∷ after)
     facts_work = facts_cut number work (commit_of s n ∷ after) T₁ facts_begun.1
@@ -178,7 +178,7 @@ module _ (K R : Type 0) (number : K → ℕ) (o : Opening) (served : Served o) (
         let a = runs_cut number before (begin_of s Checked ∷ (work ++ (commit_of s n ∷ after))) (at_opening o) τ run in
         let w₀ = runs_ok number before (at_opening o) a.0 start whole_start a.1 in
         let σ₁ = a.2.0 in
-        let w₁ = step_ok number a.0 σ₁ T₀ (call.Begin s Checked) answer.Done w₀ a.2.1 in
+        let w₁ = step_ok number a.0 σ₁ T₀ (call.Begin s Checked) (Ok answer.Done) w₀ a.2.1 in
         let b = runs_cut number work (commit_of s n ∷ after) σ₁ τ a.2.2 in
         let σ₄ = b.0 in
         let w₄ = runs_ok number work σ₁ σ₄ T₁ w₁ b.1 in
@@ -186,7 +186,7 @@ module _ (K R : Type 0) (number : K → ℕ) (o : Opening) (served : Served o) (
         let w₂ = runs_ok number done σ₁ c.0 T₁ w₁ c.1 in
         let working₂ = (act_all number done T₁ s Checked k read row_then (λ _. row_then) working₁ past₁ facts_done quiet_parts.0
         (ap (λ z. over z row_then) (sym no_write_yet))).0 in
-        let commit : commit_rule number σ₄.lengths σ₄ s ≡ answering (answer.At n) b.2.0 = b.2.1 in
+        let commit : commit_rule number σ₄.lengths σ₄ s ≡ answering (Ok (answer.At n)) b.2.0 = b.2.1 in
         let told = commit_tells number σ₄ T₄ w₄ s working₄.turn working₄.has working₄.mode n (ap (λ z. z.answer) commit) in
         record {
           σ₂ = c.0;
@@ -230,7 +230,7 @@ module _ (K R : Type 0) (number : K → ℕ) (o : Opening) (es : List (Event K R
   reads : (row : Option R) → c.work ≡ done ++ (read_of s k row ∷ rest) → row ≡ row_in es
   reads row cut =
       let l = at (read_of s k row) cut in
-      let told : ReadTells number l.σ₂ _ l.whole s l.turn l.has l.checked k (answering (answer.Row row) l.σ₃) =
+      let told : ReadTells number l.σ₂ _ l.whole s l.turn l.has l.checked k (answering (Ok (answer.Row row)) l.σ₃) =
       subst (ReadTells number l.σ₂ _ l.whole s l.turn l.has l.checked k) l.step
       (read_tells number l.σ₂ _ l.whole s l.turn l.has l.checked k) in
       let h = told row refl in
@@ -239,7 +239,7 @@ module _ (K R : Type 0) (number : K → ℕ) (o : Opening) (es : List (Event K R
   drops : (was : Bool) → c.work ≡ done ++ (drop_of s k was ∷ rest) → was ≡ is_some (row_in es)
   drops was cut =
       let l = at (drop_of s k was) cut in
-      let told : DropTells number l.σ₂ _ l.whole s l.turn l.has l.checked k (answering (answer.Was was) l.σ₃) =
+      let told : DropTells number l.σ₂ _ l.whole s l.turn l.has l.checked k (answering (Ok (answer.Was was)) l.σ₃) =
       subst (DropTells number l.σ₂ _ l.whole s l.turn l.has l.checked k) l.step
       (drop_tells number l.σ₂ _ l.whole s l.turn l.has l.checked k) in
       let h = told was refl in

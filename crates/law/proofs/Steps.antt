@@ -9,12 +9,11 @@ use Rattle.rules.specs.declared.sheet.Mode.{Mode}
 use Rattle.rules.specs.declared.sheet.Reading.{Reading}
 use Rattle.rules.specs.declared.answers.Side.{Side}
 use Rattle.rules.specs.declared.answers.Refusal.TheVariants as refusal
-use Rattle.rules.specs.declared.answers.Answer.{Answer}
 use Rattle.rules.specs.declared.answers.Answer.TheVariants as answer
 use Rattle.rules.specs.declared.answers.Call.{Call}
 use Rattle.rules.specs.declared.answers.Call.TheVariants as call
 use Rattle.rules.specs.Stores.{Store, Lengths, same_lengths, session_at, opened_at, with_session, hot_full, memo_full, ledger_full}
-use Rattle.rules.specs.Outcomes.{Outcome, served, refused, untold, if_open, if_lent, for_session}
+use Rattle.rules.specs.Outcomes.{Told, Outcome, served, refused, untold, if_open, if_lent, for_session}
 use Rattle.rules.specs.Looking.{conflict, looked}
 use Rattle.rules.specs.Selling.{begin_rule, read_rule, put_rule, drop_rule, commit_rule, abandon_rule, new_line, hot_own, wants_notice, has_marks, stale}
 use Rattle.rules.specs.Moving.{choose_rule, copy_rule, settle_rule, give_up_rule, sweep_rule, collect_rule, choose_row, copy_row, settle_row, sweep_notice, movable, row_chosen, row_copied, row_bears, unmoved, due}
@@ -149,7 +148,7 @@ module _ {K R : Type 0} (number : K → ℕ) where
     collect_ok : Keeps call.Collect (collect_rule σ.lengths σ)
     collect_ok = lent_own (Keeps call.Collect) _ σ _ _ (whole_collect number σ T w)
 
-  pub step_ok : (σ τ : Store K R) (T : History R) (c : Call K R) (a : Answer R) → Whole number σ T → Step number σ c a τ → Whole number τ (feed number T c a)
+  pub step_ok : (σ τ : Store K R) (T : History R) (c : Call K R) (a : Told R) → Whole number σ T → Step number σ c a τ → Whole number τ (feed number T c a)
   step_ok σ τ T (call.Begin s m) a w e = subst (Keeps σ T w (call.Begin s m)) e (begin_ok σ T w s m)
   step_ok σ τ T (call.Read s k) a w e = subst (Keeps σ T w (call.Read s k)) e (read_ok σ T w s k)
   step_ok σ τ T (call.Put s k r) a w e = subst (Keeps σ T w (call.Put s k r)) e (put_ok σ T w s k r)

@@ -1,8 +1,8 @@
 -- The single table is what the history shows at its clock, and what it keeps of an open session is the session's turn.
-use Rattle.std.proofs.Common.{◌≡◌, ℕ, ◌+◌, ◌≤◌, Bool, true, false, cond, eqb, List, [], ◌∷◌, is_some, Some, None, Option, sym, refl, ap, ◌∙◌, subst, inl, inr, arith}
+use Rattle.std.proofs.Common.{◌≡◌, ℕ, ◌+◌, ◌≤◌, Bool, true, false, cond, eqb, List, [], ◌∷◌, is_some, Some, None, Option, sym, refl, ap, ◌∙◌, subst, inl, inr, arith, Ok, Err}
 use Rattle.std.proofs.lemmas.Bool.{ne_eqb, le-leb, lt-leb}
+use Rattle.rules.specs.Outcomes.{Told}
 use Rattle.rules.specs.declared.sheet.Mode.{Mode}
-use Rattle.rules.specs.declared.answers.Answer.{Answer}
 use Rattle.rules.specs.declared.answers.Answer.TheVariants as answer
 use Rattle.rules.specs.declared.answers.Call.{Call}
 use Rattle.rules.specs.declared.answers.Call.TheVariants as call
@@ -112,7 +112,7 @@ module _ {R : Type 0} where
         go u false = still u (T.turn u) refl (e.visit u)
 
 module _ {K R : Type 0} (number : K → ℕ) where
-  pub same_step : (x : Single R) (T : History R) (c : Call K R) (a : Answer R)
+  pub same_step : (x : Single R) (T : History R) (c : Call K R) (a : Told R)
       → Past T → Same x T → Fact T c a → Same (fed number x c a) (feed number T c a)
   same_step x T (call.Begin s m) a p e f = by_served Same a (same_begin x T p e s m) e
   same_step x T (call.Read s k) a p e f = e
@@ -124,20 +124,20 @@ module _ {K R : Type 0} (number : K → ℕ) where
       stale true = same_close x T p e s
       stale false = e
 
-      stamp : (n : ℕ) → Answered T s n → Same (committed x s (answer.At n)) (feed_commit T s (answer.At n))
+      stamp : (n : ℕ) → Answered T s n → Same (committed x s (Ok (answer.At n))) (feed_commit T s (Ok (answer.At n)))
       stamp n g = elim g.2 [
         | inl z ↦ rw z.0 (same_close x T p e s)
         | inr z ↦ rw (z, ne_eqb (T.clock + 1) 0 (λ w. omega arith)) (same_commit x T p e s g.0 g.1)
       ]
 
-      go : (a : Answer R) → CommitFact T s a → Same (committed x s a) (feed_commit T s a)
-      go answer.Done f = e
-      go (answer.Row o) f = e
-      go (answer.Was o) f = e
-      go (answer.At n) f = stamp n f
-      go (answer.Tag n) f = e
-      go (answer.Swept o) f = e
-      go (answer.Refused w) f = stale (is_stale w)
+      go : (a : Told R) → CommitFact T s a → Same (committed x s a) (feed_commit T s a)
+      go (Ok answer.Done) f = e
+      go (Ok (answer.Row o)) f = e
+      go (Ok (answer.Was o)) f = e
+      go (Ok (answer.At n)) f = stamp n f
+      go (Ok (answer.Tag n)) f = e
+      go (Ok (answer.Swept o)) f = e
+      go (Err w) f = stale (is_stale w)
   same_step x T (call.Abandon s) a p e f = by_served (λ z U. Same x U) a {x = x} {y = x} (same_close x T p e s) e
   same_step x T (call.Choose k) a p e f = e
   same_step x T (call.Copy t) a p e f = e

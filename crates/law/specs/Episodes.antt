@@ -1,12 +1,11 @@
 -- Committed sessions of a run, their places, and what one plain table would have answered them.
-use Rattle.std.specs.Prelude.{◌≡◌, ℕ, ◌+◌, ◌*◌, Bool, true, false, cond, ◌&&◌, List, [], ◌∷◌, ◌++◌, Some, None, Option, ◌==◌, nat_le, nat_lt}
+use Rattle.std.specs.Prelude.{◌≡◌, ℕ, ◌+◌, ◌*◌, Bool, true, false, cond, ◌&&◌, List, [], ◌∷◌, ◌++◌, Some, None, Option, ◌==◌, nat_le, nat_lt, Ok, Err}
 use Rattle.slots.specs.Lists.{any, kept, one}
 use Rattle.rules.specs.declared.sheet.Mode.{Mode}
-use Rattle.rules.specs.declared.answers.Answer.{Answer}
 use Rattle.rules.specs.declared.answers.Answer.TheVariants as answer
 use Rattle.rules.specs.declared.answers.Call.{Call}
 use Rattle.rules.specs.declared.answers.Call.TheVariants as call
-use Rattle.rules.specs.Outcomes.{if_served}
+use Rattle.rules.specs.Outcomes.{Told, if_served}
 use Rattle.versions.specs.Writes.{Writes, upd}
 use Rattle.rules.specs.Refusals.{is_stale}
 use Rattle.law.specs.Runs.{Event}
@@ -15,30 +14,25 @@ use Rattle.law.specs.Single.{Single, Table, fed, carry_out}
 module _ {K R : Type 0} where
   -- served events of a session
   abbrev pub begin_of : ℕ → Mode → Event K R
-  begin_of s m = record { call = call.Begin s m; answer = answer.Done }
+  begin_of s m = record { call = call.Begin s m; answer = Ok answer.Done }
 
   abbrev pub read_of : ℕ → K → Option R → Event K R
-  read_of s k o = record { call = call.Read s k; answer = answer.Row o }
+  read_of s k o = record { call = call.Read s k; answer = Ok (answer.Row o) }
 
   abbrev pub drop_of : ℕ → K → Bool → Event K R
-  drop_of s k w = record { call = call.Drop s k; answer = answer.Was w }
+  drop_of s k w = record { call = call.Drop s k; answer = Ok (answer.Was w) }
 
   abbrev pub commit_of : ℕ → ℕ → Event K R
-  commit_of s n = record { call = call.Commit s; answer = answer.At n }
+  commit_of s n = record { call = call.Commit s; answer = Ok (answer.At n) }
 
 module _ {R : Type 0} where
   -- a commit closes its session where it is served, and where it is refused as stale
-  abbrev pub commit_closes : Answer R → Bool
-  commit_closes answer.Done = true
-  commit_closes (answer.Row o) = true
-  commit_closes (answer.Was o) = true
-  commit_closes (answer.At n) = true
-  commit_closes (answer.Tag n) = true
-  commit_closes (answer.Swept o) = true
-  commit_closes (answer.Refused e) = is_stale e
+  abbrev pub commit_closes : Told R → Bool
+  commit_closes (Ok v) = true
+  commit_closes (Err e) = is_stale e
 
 module _ {K R : Type 0} where
-  abbrev pub closes_by : ℕ → Call K R → Answer R → Bool
+  abbrev pub closes_by : ℕ → Call K R → Told R → Bool
   closes_by s (call.Begin u m) a = false
   closes_by s (call.Read u k) a = false
   closes_by s (call.Put u k r) a = false
@@ -78,17 +72,17 @@ pub record Placed (R : Type 0) : Type 0 where
   pub writes : Writes R
 
 module _ {R : Type 0} where
-  abbrev pub placed_commit : Single R → ℕ → Answer R → List (Placed R)
-  placed_commit x s answer.Done = []
-  placed_commit x s (answer.Row o) = []
-  placed_commit x s (answer.Was o) = []
-  placed_commit x s (answer.At n) = one (record { at = place (x.visit s).read n; writes = (x.visit s).writes })
-  placed_commit x s (answer.Tag n) = []
-  placed_commit x s (answer.Swept o) = []
-  placed_commit x s (answer.Refused e) = []
+  abbrev pub placed_commit : Single R → ℕ → Told R → List (Placed R)
+  placed_commit x s (Ok answer.Done) = []
+  placed_commit x s (Ok (answer.Row o)) = []
+  placed_commit x s (Ok (answer.Was o)) = []
+  placed_commit x s (Ok (answer.At n)) = one (record { at = place (x.visit s).read n; writes = (x.visit s).writes })
+  placed_commit x s (Ok (answer.Tag n)) = []
+  placed_commit x s (Ok (answer.Swept o)) = []
+  placed_commit x s (Err e) = []
 
 module _ {K R : Type 0} where
-  abbrev pub placed_by : Single R → Call K R → Answer R → List (Placed R)
+  abbrev pub placed_by : Single R → Call K R → Told R → List (Placed R)
   placed_by x (call.Begin s m) a = []
   placed_by x (call.Read s k) a = []
   placed_by x (call.Put s k r) a = []
@@ -133,7 +127,7 @@ module _ {R : Type 0} where
 
 module _ {K R : Type 0} (number : K → ℕ) where
   -- the session's own served puts and drops, on the table
-  abbrev pub own_act : ℕ → Table R → Call K R → Answer R → Table R
+  abbrev pub own_act : ℕ → Table R → Call K R → Told R → Table R
   own_act s table (call.Begin u m) a = table
   own_act s table (call.Read u k) a = table
   own_act s table (call.Put u k r) a = cond (u == s) (if_served a (upd table (number k) (Some r)) table) table

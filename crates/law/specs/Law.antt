@@ -1,11 +1,10 @@
 -- The law of the store, over every two runs from served openings.
-use Rattle.std.specs.Prelude.{◌≡◌, ℕ, ◌*◌, Bool, true, false, not, List, [], ◌∷◌, ◌++◌, map, length, take, replicate, is_some, Option, ◌==◌}
+use Rattle.std.specs.Prelude.{◌≡◌, ℕ, ◌*◌, Bool, true, false, not, List, [], ◌∷◌, ◌++◌, map, length, take, replicate, is_some, Option, ◌==◌, Ok, Err}
 use Rattle.slots.specs.Lists.{any, kept, each, one, one_if, list_of}
+use Rattle.rules.specs.Outcomes.{Told}
 use Rattle.rules.specs.declared.sheet.Mode.TheVariants.{Checked}
 use Rattle.rules.specs.declared.answers.Refusal.{Refusal}
 use Rattle.rules.specs.declared.answers.Refusal.TheVariants as refusal
-use Rattle.rules.specs.declared.answers.Answer.{Answer}
-use Rattle.rules.specs.declared.answers.Answer.TheVariants as answer
 use Rattle.rules.specs.declared.answers.Call.{Call}
 use Rattle.rules.specs.declared.answers.Call.TheVariants as call
 use Rattle.rules.specs.Stores.{Store, closed, session_at}
@@ -22,7 +21,7 @@ module _ {K R : Type 0} where
   abbrev pub calls : List (Event K R) → List (Call K R)
   calls es = map (λ ev. ev.call) es
 
-  abbrev pub answers : List (Event K R) → List (Answer R)
+  abbrev pub answers : List (Event K R) → List (Told R)
   answers es = map (λ ev. ev.answer) es
 
 -- refused for a full hot table or memo
@@ -44,14 +43,9 @@ for_want_of_room refusal.MoveOver = false
 for_want_of_room (refusal.Cold inside) = false
 
 module _ {R : Type 0} where
-  abbrev pub cramped : Answer R → Bool
-  cramped answer.Done = false
-  cramped (answer.Row o) = false
-  cramped (answer.Was o) = false
-  cramped (answer.At n) = false
-  cramped (answer.Tag n) = false
-  cramped (answer.Swept o) = false
-  cramped (answer.Refused e) = for_want_of_room e
+  abbrev pub cramped : Told R → Bool
+  cramped (Ok v) = false
+  cramped (Err e) = for_want_of_room e
 
 module _ (K R : Type 0) (number : K → ℕ) where
   -- Two stores on the same clock and ledger length that get the same seller calls in the same order answer them alike,

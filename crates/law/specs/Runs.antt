@@ -1,12 +1,11 @@
 -- Runs of a store: from an opening, any calls in any number and order, served or refused.
 use Rattle.std.specs.Prelude.{◌≡◌, ℕ, Bool, true, false, List, [], ◌∷◌, Some}
 use Rattle.slots.specs.Lists.{first}
-use Rattle.rules.specs.declared.answers.Answer.{Answer}
 use Rattle.rules.specs.declared.answers.Call.{Call}
 use Rattle.rules.specs.declared.answers.Call.TheVariants as call
 use Rattle.rules.specs.declared.tables.HotRow.{HotRow}
 use Rattle.rules.specs.Stores.{Store, Lengths}
-use Rattle.rules.specs.Outcomes.{Outcome}
+use Rattle.rules.specs.Outcomes.{Told, Outcome}
 use Rattle.rules.specs.Opening.{in_range, opened}
 use Rattle.rules.specs.Selling.{begin_rule, read_rule, put_rule, drop_rule, commit_rule, abandon_rule}
 use Rattle.rules.specs.Moving.{choose_rule, copy_rule, settle_rule, give_up_rule, sweep_rule, collect_rule, row_chosen}
@@ -14,19 +13,19 @@ use Rattle.rules.specs.Moving.{choose_rule, copy_rule, settle_rule, give_up_rule
 -- a call and its answer
 pub record Event (K R : Type 0) : Type 0 where
   pub call : Call K R
-  pub answer : Answer R
+  pub answer : Told R
 
 -- a filter's set after k was added: it has k and all that it had
 abbrev pub Grown : (ℕ → Bool) → (ℕ → Bool) → ℕ → Type 0
 Grown old new k = ((n : ℕ) → old n ≡ true → new n ≡ true) × (new k ≡ true)
 
-abbrev pub answering : {K R : Type 0} → Answer R → Store K R → Outcome K R
+abbrev pub answering : {K R : Type 0} → Told R → Store K R → Outcome K R
 answering a τ = record { answer = a; after = τ }
 
 module _ {K R : Type 0} (number : K → ℕ) where
   -- One call: answer and store after are what its rule says, with the tables of the opening lent. A copy leaves the
   -- filter with any set that an add of the row's key may leave.
-  abbrev pub Step : Store K R → Call K R → Answer R → Store K R → Type 0
+  abbrev pub Step : Store K R → Call K R → Told R → Store K R → Type 0
   Step σ (call.Begin s m) a τ = begin_rule σ.lengths σ s m ≡ answering a τ
   Step σ (call.Read s k) a τ = read_rule number σ.lengths σ s k ≡ answering a τ
   Step σ (call.Put s k r) a τ = put_rule number σ.lengths σ s k r ≡ answering a τ

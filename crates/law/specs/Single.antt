@@ -1,10 +1,9 @@
 -- The single table: one plain table, fed the opening's clock, each call, whether it was served, and what a commit answered.
-use Rattle.std.specs.Prelude.{ℕ, Bool, false, cond, List, [], ◌∷◌, is_some, Some, None, Option, ◌==◌}
-use Rattle.rules.specs.declared.answers.Answer.{Answer}
+use Rattle.std.specs.Prelude.{ℕ, Bool, false, cond, List, [], ◌∷◌, is_some, Some, None, Option, ◌==◌, Ok, Err}
 use Rattle.rules.specs.declared.answers.Answer.TheVariants as answer
 use Rattle.rules.specs.declared.answers.Call.{Call}
 use Rattle.rules.specs.declared.answers.Call.TheVariants as call
-use Rattle.rules.specs.Outcomes.{if_served}
+use Rattle.rules.specs.Outcomes.{Told, if_served}
 use Rattle.versions.specs.Writes.{Writes, no_writes, over, upd}
 use Rattle.law.specs.Runs.{Event}
 
@@ -52,19 +51,19 @@ module _ {R : Type 0} where
   drop_noted x s k = with_write x s k (cond ((x.visit s).had k) (Some None) None)
 
   -- commit: one that answers a stamp carries the session's writes out
-  abbrev pub committed : Single R → ℕ → Answer R → Single R
-  committed x s answer.Done = x
-  committed x s (answer.Row o) = x
-  committed x s (answer.Was o) = x
-  committed x s (answer.At n) =
+  abbrev pub committed : Single R → ℕ → Told R → Single R
+  committed x s (Ok answer.Done) = x
+  committed x s (Ok (answer.Row o)) = x
+  committed x s (Ok (answer.Was o)) = x
+  committed x s (Ok (answer.At n)) =
       cond (n == 0) x (record { clock = n; table = carry_out (x.visit s).writes x.table; visit = x.visit })
-  committed x s (answer.Tag n) = x
-  committed x s (answer.Swept o) = x
-  committed x s (answer.Refused e) = x
+  committed x s (Ok (answer.Tag n)) = x
+  committed x s (Ok (answer.Swept o)) = x
+  committed x s (Err e) = x
 
 module _ {K R : Type 0} (number : K → ℕ) where
   -- all else, refusals too, leaves it
-  abbrev pub fed : Single R → Call K R → Answer R → Single R
+  abbrev pub fed : Single R → Call K R → Told R → Single R
   fed x (call.Begin s m) a = if_served a (began x s) x
   fed x (call.Read s k) a = x
   fed x (call.Put s k r) a = if_served a (put_noted x s (number k) r) x

@@ -1,6 +1,7 @@
 -- The eight marked cases, of the rules themselves. Keys are plain numbers here, and rows too.
-use Rattle.std.specs.Prelude.{◌≡◌, ℕ, Bool, true, false, List, [], ◌∷◌, None, Some}
+use Rattle.std.specs.Prelude.{◌≡◌, ℕ, Bool, true, false, List, [], ◌∷◌, None, Some, Ok, Err}
 use Rattle.filter.specs.Bloom.{first_place, second_place, third_place}
+use Rattle.rules.specs.Outcomes.{Told}
 use Rattle.rules.specs.declared.times.Moment.{Moment}
 use Rattle.rules.specs.declared.times.Moment.TheVariants as moment
 use Rattle.rules.specs.declared.tables.MoveMark.TheVariants.{Unmoved}
@@ -11,7 +12,6 @@ use Rattle.rules.specs.declared.sheet.Mode.{Mode}
 use Rattle.rules.specs.declared.sheet.Mode.TheVariants.{Plain, Checked}
 use Rattle.rules.specs.declared.sheet.Session.{Session}
 use Rattle.rules.specs.declared.answers.Refusal.TheVariants as refusal
-use Rattle.rules.specs.declared.answers.Answer.{Answer}
 use Rattle.rules.specs.declared.answers.Answer.TheVariants as answer
 use Rattle.rules.specs.Times.{sees}
 use Rattle.rules.specs.Notices.{kind_sees, due_kind}
@@ -48,11 +48,11 @@ sample sessions hot ledger = record {
 abbrev pub reader_at : Mode → ℕ → List (HotRow ℕ ℕ) → List (Line ℕ) → Store ℕ ℕ
 reader_at mode t more ledger = sample (opened_at mode t ∷ []) (row_from 1 (moment.Stamp 6) ∷ more) ledger
 
-abbrev pub put_at : ℕ → Answer ℕ
+abbrev pub put_at : ℕ → Told ℕ
 put_at t = (put_rule same (reader_at Plain t [] []).lengths (reader_at Plain t [] []) 0 1 70).answer
 
 -- a commit of session 0 after a checked read of key 1 at 5, with these hot rows of its own
-abbrev pub commit_after : List (HotRow ℕ ℕ) → Answer ℕ
+abbrev pub commit_after : List (HotRow ℕ ℕ) → Told ℕ
 commit_after own =
     (commit_rule same (reader_at Checked 5 own (record { session = 0; key = 1 } ∷ [])).lengths
     (reader_at Checked 5 own (record { session = 0; key = 1 } ∷ [])) 0).answer
@@ -64,7 +64,7 @@ chosen_first = (choose_rule same (reader_at Plain 6 [] []).lengths (reader_at Pl
 abbrev pub overtaken : Store ℕ ℕ
 overtaken = (put_rule same chosen_first.lengths chosen_first 0 1 70).after
 
-abbrev pub copied_last : Answer ℕ
+abbrev pub copied_last : Told ℕ
 copied_last = (copy_rule same overtaken.lengths overtaken 1 overtaken.admits).answer
 
 pub record MarkedCases : Type 0 where
@@ -80,10 +80,10 @@ pub record MarkedCases : Type 0 where
       × (kind_sees BE 5 (Some (moment.Stamp 9)) s 4 ≡ false)
       × (kind_sees BE 5 (Some (moment.Stamp 9)) s 9 ≡ false)
   -- 3: stamp 6 on a key, and a put at 5 and at 6
-  pub conflict_edges : (put_at 5 ≡ answer.Refused refusal.Conflict) × (put_at 6 ≡ answer.Done)
+  pub conflict_edges : (put_at 5 ≡ Err refusal.Conflict) × (put_at 6 ≡ Ok answer.Done)
   -- 4: the same stamp after a checked read at 5
   pub stale_edges :
-      (commit_after (row_from 2 (moment.Mark 0) ∷ []) ≡ answer.Refused refusal.StaleRead) × (commit_after [] ≡ answer.At 0)
+      (commit_after (row_from 2 (moment.Mark 0) ∷ []) ≡ Err refusal.StaleRead) × (commit_after [] ≡ Ok (answer.At 0))
   -- 5: read times 4 and 7 open at clock 9, and none open
   pub horizon_edges :
       (horizon 9 (opened_at Plain 7 ∷ (closed ∷ (opened_at Checked 4 ∷ []))) ≡ 4) × (horizon 9 (closed ∷ (closed ∷ [])) ≡ 9)
@@ -98,4 +98,4 @@ pub record MarkedCases : Type 0 where
       (first_place 4097 ≡ 1) × (second_place 4097 ≡ 1) × (third_place 4097 ≡ 2)
       × (first_place 5 ≡ 5) × (second_place 5 ≡ 0) × (third_place 5 ≡ 5)
   -- 8: choose, put by a session, copy
-  pub overtaken_move : (copied_last ≡ answer.Refused refusal.MoveOver) × (number_of refusal.MoveOver ≡ 14)
+  pub overtaken_move : (copied_last ≡ Err refusal.MoveOver) × (number_of refusal.MoveOver ≡ 14)

@@ -1,5 +1,5 @@
 -- The horizon: the smallest read time of an open session, or the clock if none is open.
-use Rattle.std.specs.Prelude.{ℕ, min, List, [], ◌∷◌, Some, None, Option}
+use Rattle.std.specs.Prelude.{ℕ, min, List, [], ◌∷◌, Some, None, Option, unwrap_or}
 use Rattle.rules.specs.declared.sheet.Reading.{Reading}
 use Rattle.rules.specs.declared.sheet.Session.{Session}
 
@@ -14,9 +14,5 @@ unfoldable pub least_time : List Session → Option ℕ
 least_time [] = None
 least_time (x ∷ xs) = lesser x.reading (least_time xs)
 
-abbrev pub or_clock : Option ℕ → ℕ → ℕ
-or_clock None clock = clock
-or_clock (Some t) clock = t
-
 abbrev pub horizon : ℕ → List Session → ℕ
-horizon clock sessions = or_clock (least_time sessions) clock
+horizon clock sessions = unwrap_or (least_time sessions) clock

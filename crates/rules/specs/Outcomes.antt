@@ -1,16 +1,19 @@
 -- What a call answers, and the store after it.
-use Rattle.std.specs.Prelude.{ℕ, cond, Some, None, Option, nat_lt}
+use Rattle.std.specs.Prelude.{ℕ, cond, Some, None, Ok, Err, Option, Result, nat_lt}
 use Rattle.rules.specs.declared.sheet.Mode.{Mode}
 use Rattle.rules.specs.declared.sheet.Reading.{Reading}
 use Rattle.rules.specs.declared.answers.Side.{Side}
 use Rattle.rules.specs.declared.answers.Refusal.{Refusal}
 use Rattle.rules.specs.declared.answers.Refusal.TheVariants as refusal
 use Rattle.rules.specs.declared.answers.Answer.{Answer}
-use Rattle.rules.specs.declared.answers.Answer.TheVariants as answer
 use Rattle.rules.specs.Stores.{Store, Lengths, same_lengths, session_at, with_finds}
 
+-- what a call tells: an answer, or why it is refused
+abbrev pub Told : Type 0 → Type 0
+Told R = Result (Answer R) Refusal
+
 pub record Outcome (K R : Type 0) : Type 0 where
-  pub answer : Answer R
+  pub answer : Told R
   pub after : Store K R
 
 -- what one of two gives, by whether a session is open
@@ -20,11 +23,11 @@ if_open (Some r) f x = f r.mode r.time
 
 module _ {K R : Type 0} where
   abbrev pub served : Answer R → Store K R → Outcome K R
-  served a σ = record { answer = a; after = σ }
+  served a σ = record { answer = Ok a; after = σ }
 
   -- a refusal, and the store that it leaves
   abbrev pub refused : Refusal → Store K R → Outcome K R
-  refused e σ = record { answer = answer.Refused e; after = σ }
+  refused e σ = record { answer = Err e; after = σ }
 
   -- what a refused read, put or drop leaves: no finds are told
   abbrev pub untold : Store K R → Store K R
@@ -42,11 +45,6 @@ module _ {K R : Type 0} where
 
 module _ {R : Type 0} where
   -- x where the call was served, else y
-  abbrev pub if_served : {X : Type 0} → Answer R → X → X → X
-  if_served answer.Done x y = x
-  if_served (answer.Row o) x y = x
-  if_served (answer.Was o) x y = x
-  if_served (answer.At n) x y = x
-  if_served (answer.Tag n) x y = x
-  if_served (answer.Swept o) x y = x
-  if_served (answer.Refused e) x y = y
+  abbrev pub if_served : {X : Type 0} → Told R → X → X → X
+  if_served (Ok v) x y = x
+  if_served (Err e) x y = y

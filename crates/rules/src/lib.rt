@@ -6,6 +6,7 @@ pub mod horizon;
 pub mod lent;
 pub mod notices;
 pub mod refusals;
+pub mod sessions;
 pub mod sheet;
 pub mod tables;
 pub mod times;

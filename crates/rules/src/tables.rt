@@ -14,7 +14,7 @@ pub enum MoveMark {
 }
 
 // A version of a key's row in the hot table. With no end it is open.
-#[derive(Clone, Copy)]
+#[derive(Clone, Copy, Debug, PartialEq, Eq)]
 pub struct HotRow<K, R> {
     pub key: K,
     pub row: R,
@@ -48,7 +48,7 @@ pub enum Kind {
 }
 
 // A notice about a cold entry. A begin that is not used is 1, an end that is not used is open.
-#[derive(Clone, Copy)]
+#[derive(Clone, Copy, Debug, PartialEq, Eq)]
 pub struct Notice<K> {
     pub key: K,
     pub tag: u32,
@@ -58,7 +58,7 @@ pub struct Notice<K> {
 }
 
 // That a checked session looked at a key.
-#[derive(Clone, Copy)]
+#[derive(Clone, Copy, Debug, PartialEq, Eq)]
 pub struct Line<K> {
     pub session: u32,
     pub key: K,

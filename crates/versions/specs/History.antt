@@ -1,13 +1,12 @@
 -- The history of a run: what the single table went through, kept with its past. It is a function of the seller calls and
 -- their answers alone. Proofs hold a store against it.
-use Rattle.std.specs.Prelude.{ℕ, Bool, cond, List, [], ◌∷◌, is_some, Some, None, Option, ◌==◌, nat_le}
+use Rattle.std.specs.Prelude.{ℕ, Bool, cond, List, [], ◌∷◌, is_some, Some, None, Option, ◌==◌, nat_le, Ok, Err}
 use Rattle.rules.specs.declared.sheet.Mode.{Mode}
-use Rattle.rules.specs.declared.answers.Answer.{Answer}
 use Rattle.rules.specs.declared.answers.Answer.TheVariants as answer
 use Rattle.rules.specs.declared.answers.Call.{Call}
 use Rattle.rules.specs.declared.answers.Call.TheVariants as call
 pub use Rattle.rules.specs.Refusals.{is_stale}
-pub use Rattle.rules.specs.Outcomes.{if_served}
+pub use Rattle.rules.specs.Outcomes.{Told, if_served}
 pub use Rattle.versions.specs.Writes.{Writes, no_writes, over, upd}
 
 -- a commit that answered a stamp
@@ -73,18 +72,18 @@ module _ {R : Type 0} where
   }
 
 module _ {R : Type 0} where
-  abbrev pub feed_commit : History R → ℕ → Answer R → History R
-  feed_commit T s answer.Done = T
-  feed_commit T s (answer.Row o) = T
-  feed_commit T s (answer.Was o) = T
-  feed_commit T s (answer.At n) = cond (n == 0) (closes T s) (commits_at T s n)
-  feed_commit T s (answer.Tag n) = T
-  feed_commit T s (answer.Swept o) = T
-  feed_commit T s (answer.Refused e) = cond (is_stale e) (closes T s) T
+  abbrev pub feed_commit : History R → ℕ → Told R → History R
+  feed_commit T s (Ok answer.Done) = T
+  feed_commit T s (Ok (answer.Row o)) = T
+  feed_commit T s (Ok (answer.Was o)) = T
+  feed_commit T s (Ok (answer.At n)) = cond (n == 0) (closes T s) (commits_at T s n)
+  feed_commit T s (Ok (answer.Tag n)) = T
+  feed_commit T s (Ok (answer.Swept o)) = T
+  feed_commit T s (Err e) = cond (is_stale e) (closes T s) T
 
 module _ {K R : Type 0} (number : K → ℕ) where
   -- one event more
-  abbrev pub feed : History R → Call K R → Answer R → History R
+  abbrev pub feed : History R → Call K R → Told R → History R
   feed T (call.Begin s m) a = if_served a (begins T s m) T
   feed T (call.Read s k) a = T
   feed T (call.Put s k r) a = if_served a (puts T s (number k) r) T
