@@ -14,7 +14,7 @@ pub fn is_for<K: Key>(notice: &Notice<K>, number: u64, tag: u32) -> bool
 }
 
 // Settles a notice. Only N takes the row's begin.
-pub fn settle<K>(notice: &mut Notice<K>, begin: u32)
+pub fn settle_notice<K>(notice: &mut Notice<K>, begin: u32)
     ensures { notice.new ≡ settle_notice begin notice.old }
 {
     if notice.kind == Kind::N {
