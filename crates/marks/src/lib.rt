@@ -1,7 +1,5 @@
-// What the move calls ask of rows and notices, and how they change one.
+// What the move calls ask of rows and notices, and how a notice is settled.
 #![tactic(auto)]
 
-pub mod edits;
-pub mod first;
-pub mod parts;
-pub mod tests_of;
+pub mod notices;
+pub mod rows;

@@ -1,7 +1,2 @@
 mod Parts
-mod ChooseRule
-mod CopyRule
-mod SettleRule
-mod GiveUpRule
-mod SweepRule
-mod Unborne
+mod Puts

@@ -1,4 +1,3 @@
 pub mod Due
 pub mod Grown
 pub mod Hands
-pub mod Opened

@@ -4,18 +4,18 @@ ghost use Rattle.rules.specs.Stores.{store, lent};
 ghost use Rattle.rules.specs.Moving.{choose_rule};
 ghost use Rattle.mover.specs.Hands.{told_chosen};
 
-use crate::lengths::are_opened;
 use crate::moves::Chosen;
 use keys::key::Key;
-use marks::edits::SetMark;
-use marks::parts::is_unmoved;
-use marks::tests_of::Movable;
+use marks::rows::is_movable;
 use rules::answers::{Refusal, Side};
 use rules::sheet::Sheet;
-use rules::tables::{End, HotRow, Kind, Line, MoveMark, Notice};
+use rules::tables::{HotRow, Kind, Line, MoveMark, Notice};
 use slots::change::edit_at;
 use slots::count::append;
 use slots::search::find_first;
+
+// The last tag that a move can have.
+const LAST_TAG: u32 = 4_000_000_000;
 
 // Starts the move of a key's row: marks it chosen with a new tag, and adds the notice that hides its cold entry to be.
 pub fn choose<K: Key, R: Copy>(
@@ -33,38 +33,30 @@ pub fn choose<K: Key, R: Copy>(
         ≡ (choose_rule K.Key.number (lent hot.old memo.old ledger.now)
         (store sheet.old hot.old memo.old ledger.now cold limit admits) key).after }
 {
-    if !are_opened(sheet, hot, memo, ledger) {
+    if !sheet.is_lent(hot, memo, ledger) {
         return Err(Refusal::OutOfRange(Side::Mover));
     }
-    let found = find_first(hot, sheet.hot_used, &Movable(key.number()));
-    match found {
-        None => Err(Refusal::NoRow),
-        Some(hit) => {
-            if !is_unmoved(hit.it.mark) {
-                return Err(Refusal::AlreadyMarked);
-            }
-            if sheet.last_tag >= 4_000_000_000 {
-                return Err(Refusal::TagsAtEnd);
-            }
-            if sheet.memo_used >= sheet.memo_length {
-                return Err(Refusal::MemoFull(Side::Mover));
-            }
-            let tag = sheet.last_tag + 1;
-            edit_at(hot, hit.at, &SetMark(MoveMark::Chosen(tag)));
-            let notices = append(
-                memo,
-                sheet.memo_used,
-                Notice {
-                    key,
-                    tag,
-                    kind: Kind::N,
-                    begin: 1,
-                    end: End::Open,
-                },
-            );
-            sheet.last_tag = tag;
-            sheet.memo_used = notices;
-            Ok(Chosen { tag })
-        }
+    let number = key.number();
+    let hit = find_first(hot, sheet.hot_used, |row| is_movable(row, number)).ok_or(Refusal::NoRow)?;
+    if hit.it.mark != MoveMark::Unmoved {
+        return Err(Refusal::AlreadyMarked);
     }
+    if sheet.last_tag >= LAST_TAG {
+        return Err(Refusal::TagsAtEnd);
+    }
+    if sheet.memo_used >= sheet.memo_length {
+        return Err(Refusal::MemoFull(Side::Mover));
+    }
+    let tag = sheet.last_tag + 1;
+    edit_at(hot, hit.at, |row| row.mark = MoveMark::Chosen(tag));
+    let pending = Notice {
+        key,
+        tag,
+        kind: Kind::N,
+        begin: 1,
+        end: None,
+    };
+    sheet.memo_used = append(memo, sheet.memo_used, pending);
+    sheet.last_tag = tag;
+    Ok(Chosen { tag })
 }

@@ -4,9 +4,7 @@ ghost use Rattle.rules.specs.Stores.{store, lent};
 ghost use Rattle.rules.specs.Told.{told_done};
 ghost use Rattle.rules.specs.Moving.{collect_rule};
 
-use crate::lengths::are_opened;
 use keys::key::Key;
-use marks::tests_of::StaysAt;
 use rules::answers::{Refusal, Side};
 use rules::sheet::Sheet;
 use rules::tables::{HotRow, Line, Notice};
@@ -27,11 +25,10 @@ pub fn collect<K: Key, R: Copy>(
         ≡ (collect_rule (lent hot.old memo.now ledger.now)
         (store sheet.old hot.old memo.now ledger.now cold limit admits)).after }
 {
-    if !are_opened(sheet, hot, memo, ledger) {
+    if !sheet.is_lent(hot, memo, ledger) {
         return Err(Refusal::OutOfRange(Side::Mover));
     }
     let horizon = sheet.horizon();
-    let rows = retain(hot, sheet.hot_used, &StaysAt(horizon));
-    sheet.hot_used = rows;
+    sheet.hot_used = retain(hot, sheet.hot_used, |row| !row.is_past(horizon));
     Ok(())
 }

@@ -1,17 +1,14 @@
-ghost use Rattle.std.specs.Prelude.{◌≡◌, true};
-ghost use Rattle.cold.specs.Cold.{in_order, put_answer, put_after};
+ghost use Rattle.std.specs.Prelude.{◌≡◌, MatchResult};
+ghost use Rattle.cold.specs.Cold.{put_answer, put_after};
 ghost use Rattle.rules.specs.Stores.{store, lent};
 ghost use Rattle.rules.specs.Moving.{copy_rule};
-ghost use Rattle.mover.specs.Hands.{told_copy, LeftByCopy};
+ghost use Rattle.mover.specs.Hands.{told_moved, LeftBy};
 ghost use Rattle.mover.specs.Grown.{HasMore, Grown};
 
-use crate::lengths::are_opened;
-use crate::moves::{Chosen, Copied, CopyAnswer};
+use crate::moves::{Chosen, Copied, Stopped};
 use cold::store::{ColdRefusal, ColdStore};
 use filter::Filter;
 use keys::key::Key;
-use marks::edits::SetMark;
-use marks::tests_of::ChosenAs;
 use rules::answers::{Refusal, Side};
 use rules::sheet::Sheet;
 use rules::tables::{HotRow, Line, MoveMark, Notice};
@@ -25,7 +22,6 @@ fn put_below<K: Key, R: Copy, C: ColdStore<K, R>, F: Filter>(
     hot_row: &HotRow<K, R>,
     tag: u32,
 ) -> Result<(), ColdRefusal>
-    requires { in_order (C.ColdStore.entries cold.old) ≡ true }
     ensures answer { result
         ≡ put_answer (C.ColdStore.limit cold.old) (C.ColdStore.entries cold.old)
         (K.Key.number hot_row.now.key) tag }
@@ -49,9 +45,8 @@ pub fn copy<K: Key, R: Copy, C: ColdStore<K, R>, F: Filter>(
     cold: &mut C,
     filter: &mut F,
     moving: Chosen,
-) -> CopyAnswer
-    requires { in_order (C.ColdStore.entries cold.old) ≡ true }
-    ensures answer { told_copy result
+) -> Result<Copied, Stopped<Chosen>>
+    ensures answer { told_moved result
         ≡ (copy_rule K.Key.number (lent hot.old memo.now ledger.now)
         (store sheet.now hot.old memo.now ledger.now (C.ColdStore.entries cold.old)
         (C.ColdStore.limit cold.old) (F.Filter.admitted filter.old))
@@ -66,27 +61,24 @@ pub fn copy<K: Key, R: Copy, C: ColdStore<K, R>, F: Filter>(
         (store sheet.now hot.old memo.now ledger.now (C.ColdStore.entries cold.old)
         (C.ColdStore.limit cold.old) (F.Filter.admitted filter.old))
         moving.tag (F.Filter.admitted filter.new) }
-    ensures hand { LeftByCopy moving result }
+    ensures hand { MatchResult result (λ copied. copied.tag ≡ moving.tag) (LeftBy moving) }
 {
-    if !are_opened(sheet, hot, memo, ledger) {
-        return CopyAnswer::Kept(moving, Refusal::OutOfRange(Side::Mover));
+    if !sheet.is_lent(hot, memo, ledger) {
+        return Err(Stopped::Kept(moving, Refusal::OutOfRange(Side::Mover)));
     }
-    let found = find_first(hot, sheet.hot_used, &ChosenAs(moving.tag));
-    match found {
-        None => {
-            let Chosen { tag: _ } = moving;
-            CopyAnswer::Over(Refusal::MoveOver)
-        }
-        Some(hit) => {
-            let stored = put_below(cold, filter, &hit.it, moving.tag);
-            match stored {
-                Err(why) => CopyAnswer::Kept(moving, Refusal::Cold(why)),
-                Ok(()) => {
-                    let Chosen { tag } = moving;
-                    edit_at(hot, hit.at, &SetMark(MoveMark::Copied(tag)));
-                    CopyAnswer::Done(Copied { tag })
-                }
-            }
-        }
+    let found = find_first(
+        hot,
+        sheet.hot_used,
+        |row| row.mark == MoveMark::Chosen(moving.tag),
+    );
+    let Some(hit) = found else {
+        let Chosen { tag: _ } = moving;
+        return Err(Stopped::Over(Refusal::MoveOver));
+    };
+    if let Err(why) = put_below(cold, filter, &hit.it, moving.tag) {
+        return Err(Stopped::Kept(moving, Refusal::Cold(why)));
     }
+    let Chosen { tag } = moving;
+    edit_at(hot, hit.at, |row| row.mark = MoveMark::Copied(tag));
+    Ok(Copied { tag })
 }

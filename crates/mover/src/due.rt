@@ -5,12 +5,11 @@ ghost use Rattle.rules.specs.Moving.{row_bears};
 ghost use Rattle.mover.specs.Due.{due_by};
 
 use keys::key::Key;
-use marks::tests_of::Bearing;
-use rules::notices::is_due;
+use marks::rows::bears;
 use rules::sheet::Sheet;
 use rules::tables::{HotRow, Kind, Notice};
 use slots::hit::Hit;
-use slots::search::any_of;
+use slots::search::{any_of, listed};
 
 // Whether a notice is due. Only N asks whether a hot row bears its tag, so only N has the hot table searched.
 fn is_notice_due<K: Key, R: Copy>(
@@ -22,10 +21,8 @@ fn is_notice_due<K: Key, R: Copy>(
     ensures { result ≡ due_kind notice.now.kind notice.now.begin notice.now.end horizon
         (any (row_bears notice.now.tag) (take used hot.now)) }
 {
-    match notice.kind {
-        Kind::N => !any_of(hot, used, &Bearing(notice.tag)),
-        kind => is_due(kind, notice.begin, notice.end, horizon, false),
-    }
+    let borne = notice.kind == Kind::N && any_of(hot, used, |row| bears(row, notice.tag));
+    notice.is_due(horizon, borne)
 }
 
 // The first notice that is due, with its place.
@@ -38,11 +35,10 @@ pub fn first_due<K: Key, R: Copy>(
         (take sheet.now.memo_used memo.now) }
 {
     let horizon = sheet.horizon();
-    let end = sheet.memo_used.min(memo.len());
-    for i in 0..end {
-        let notice = memo[i];
-        if is_notice_due(hot, sheet.hot_used, &notice, horizon) {
-            return Some(Hit { at: i, it: notice });
+    let notices = listed(memo, sheet.memo_used);
+    for (at, notice) in notices.iter().enumerate() {
+        if is_notice_due(hot, sheet.hot_used, notice, horizon) {
+            return Some(Hit { at, it: *notice });
         }
     }
     None

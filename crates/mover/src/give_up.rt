@@ -1,18 +1,16 @@
-ghost use Rattle.std.specs.Prelude.{◌≡◌, ℕ, Bool, List};
+ghost use Rattle.std.specs.Prelude.{◌≡◌, ℕ, Bool, List, IfErr};
 ghost use Rattle.cold.specs.Cold.{Entry};
 ghost use Rattle.rules.specs.Stores.{store, lent};
 ghost use Rattle.rules.specs.Moving.{give_up_rule};
-ghost use Rattle.mover.specs.Hands.{tag_of, told_give_up, LeftByGiveUp};
+ghost use Rattle.mover.specs.Hands.{tag_of, told_moved, LeftBy};
 
-use crate::lengths::are_opened;
-use crate::moves::{Chosen, Copied, GiveUpAnswer, Move};
+use crate::moves::{Chosen, Copied, Move, Stopped};
 use keys::key::Key;
-use marks::edits::SetMark;
-use marks::first::edit_first;
-use marks::tests_of::Bearing;
+use marks::rows::bears;
 use rules::answers::{Refusal, Side};
 use rules::sheet::Sheet;
 use rules::tables::{HotRow, Line, MoveMark, Notice};
+use slots::change::edit_first;
 
 // Ends a move's value, and tells its tag.
 fn spend(moving: Move) -> u32
@@ -31,27 +29,27 @@ pub fn give_up<K: Key, R: Copy>(
     memo: &[Notice<K>],
     ledger: &[Line<K>],
     moving: Move,
-) -> GiveUpAnswer
-    ensures answer { (cold : List (Entry R)) (limit : ℕ) (admits : ℕ → Bool) → told_give_up result
+) -> Result<(), Stopped<Move>>
+    ensures answer { (cold : List (Entry R)) (limit : ℕ) (admits : ℕ → Bool) → told_moved result
         ≡ (give_up_rule (lent hot.old memo.now ledger.now)
         (store sheet.now hot.old memo.now ledger.now cold limit admits) (tag_of moving)).answer }
     ensures after { (cold : List (Entry R)) (limit : ℕ) (admits : ℕ → Bool)
         → store sheet.now hot.new memo.now ledger.now cold limit admits
         ≡ (give_up_rule (lent hot.old memo.now ledger.now)
         (store sheet.now hot.old memo.now ledger.now cold limit admits) (tag_of moving)).after }
-    ensures hand { LeftByGiveUp moving result }
+    ensures hand { IfErr result (LeftBy moving) }
 {
-    if !are_opened(sheet, hot, memo, ledger) {
-        return GiveUpAnswer::Kept(moving, Refusal::OutOfRange(Side::Mover));
+    if !sheet.is_lent(hot, memo, ledger) {
+        return Err(Stopped::Kept(moving, Refusal::OutOfRange(Side::Mover)));
     }
     let tag = spend(moving);
     if !edit_first(
         hot,
         sheet.hot_used,
-        &Bearing(tag),
-        &SetMark(MoveMark::Unmoved),
+        |row| bears(row, tag),
+        |row| row.mark = MoveMark::Unmoved,
     ) {
-        return GiveUpAnswer::Over(Refusal::MoveOver);
+        return Err(Stopped::Over(Refusal::MoveOver));
     }
-    GiveUpAnswer::Done
+    Ok(())
 }

@@ -4,6 +4,7 @@ use rules::answers::Refusal;
 
 // A move is one value from choose to its end: only choose makes a chosen one, and only copy a copied one. It can be neither
 // cloned nor let go, so that each is spent once: by a settle or a give-up that is served, or by refusal 14.
+// Two structs and no generic one: that would need two more types as its markers, which are as long as the second struct.
 
 // A move whose row is chosen.
 pub struct Chosen {
@@ -39,23 +40,8 @@ impl Copied {
     }
 }
 
-// What a copy answers: the copied move, that the move is over, or the move as it was.
-pub enum CopyAnswer {
-    Done(Copied),
+// Why a call on a move stopped: the move is over, and spent, or the refusal hands it back as it was.
+pub enum Stopped<M> {
     Over(Refusal),
-    Kept(Chosen, Refusal),
-}
-
-// What a settle answers.
-pub enum SettleAnswer {
-    Done,
-    Over(Refusal),
-    Kept(Copied, Refusal),
-}
-
-// What a give-up answers.
-pub enum GiveUpAnswer {
-    Done,
-    Over(Refusal),
-    Kept(Move, Refusal),
+    Kept(M, Refusal),
 }

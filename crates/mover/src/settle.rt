@@ -1,19 +1,16 @@
-ghost use Rattle.std.specs.Prelude.{◌≡◌, ℕ, Bool, List};
+ghost use Rattle.std.specs.Prelude.{◌≡◌, ℕ, Bool, List, IfErr};
 ghost use Rattle.cold.specs.Cold.{Entry};
 ghost use Rattle.rules.specs.Stores.{store, lent};
 ghost use Rattle.rules.specs.Moving.{settle_rule};
-ghost use Rattle.mover.specs.Hands.{told_settle, LeftBySettle};
+ghost use Rattle.mover.specs.Hands.{told_moved, LeftBy};
 
-use crate::lengths::are_opened;
-use crate::moves::{Copied, SettleAnswer};
+use crate::moves::{Copied, Stopped};
 use keys::key::Key;
-use marks::edits::SettleAt;
-use marks::first::edit_first;
-use marks::parts::stamp_of;
-use marks::tests_of::{CopiedAs, IsFor};
+use marks::notices::{is_for, settle_notice};
 use rules::answers::{Refusal, Side};
 use rules::sheet::Sheet;
-use rules::tables::{HotRow, Line, Notice};
+use rules::tables::{HotRow, Line, MoveMark, Notice};
+use slots::change::edit_first;
 use slots::count::take_out;
 use slots::search::find_first;
 
@@ -24,37 +21,32 @@ pub fn settle<K: Key, R: Copy>(
     memo: &mut [Notice<K>],
     ledger: &[Line<K>],
     moving: Copied,
-) -> SettleAnswer
-    ensures answer { (cold : List (Entry R)) (limit : ℕ) (admits : ℕ → Bool) → told_settle result
+) -> Result<(), Stopped<Copied>>
+    ensures answer { (cold : List (Entry R)) (limit : ℕ) (admits : ℕ → Bool) → told_moved result
         ≡ (settle_rule K.Key.number (lent hot.old memo.old ledger.now)
         (store sheet.old hot.old memo.old ledger.now cold limit admits) moving.tag).answer }
     ensures after { (cold : List (Entry R)) (limit : ℕ) (admits : ℕ → Bool)
         → store sheet.new hot.new memo.new ledger.now cold limit admits
         ≡ (settle_rule K.Key.number (lent hot.old memo.old ledger.now)
         (store sheet.old hot.old memo.old ledger.now cold limit admits) moving.tag).after }
-    ensures hand { LeftBySettle moving result }
+    ensures hand { IfErr result (LeftBy moving) }
 {
-    if !are_opened(sheet, hot, memo, ledger) {
-        return SettleAnswer::Kept(moving, Refusal::OutOfRange(Side::Mover));
+    if !sheet.is_lent(hot, memo, ledger) {
+        return Err(Stopped::Kept(moving, Refusal::OutOfRange(Side::Mover)));
     }
     let Copied { tag } = moving;
-    let found = find_first(hot, sheet.hot_used, &CopiedAs(tag));
-    match found {
-        None => SettleAnswer::Over(Refusal::MoveOver),
-        Some(hit) => {
-            let rows = take_out(hot, sheet.hot_used, hit.at);
-            let entry = IsFor {
-                number: hit.it.key.number(),
-                tag,
-            };
-            edit_first(
-                memo,
-                sheet.memo_used,
-                &entry,
-                &SettleAt(stamp_of(hit.it.begin)),
-            );
-            sheet.hot_used = rows;
-            SettleAnswer::Done
-        }
-    }
+    let found = find_first(hot, sheet.hot_used, |row| row.mark == MoveMark::Copied(tag));
+    let Some(hit) = found else {
+        return Err(Stopped::Over(Refusal::MoveOver));
+    };
+    let number = hit.it.key.number();
+    let begin = hit.it.begin.stamp().unwrap_or(1);
+    sheet.hot_used = take_out(hot, sheet.hot_used, hit.at);
+    edit_first(
+        memo,
+        sheet.memo_used,
+        |notice| is_for(notice, number, tag),
+        |notice| settle_notice(notice, begin),
+    );
+    Ok(())
 }

@@ -1,17 +1,15 @@
-ghost use Rattle.std.specs.Prelude.{◌≡◌, ℕ, Bool, true};
-ghost use Rattle.cold.specs.Cold.{in_order, removed_after};
+ghost use Rattle.std.specs.Prelude.{◌≡◌, ℕ, Bool};
+ghost use Rattle.cold.specs.Cold.{removed_after};
 ghost use Rattle.slots.specs.Lists.{changed_at};
 ghost use Rattle.rules.specs.Stores.{store, lent};
 ghost use Rattle.rules.specs.Told.{told_swept};
 ghost use Rattle.rules.specs.Moving.{with_kind, sweep_rule};
 
 use crate::due::first_due;
-use crate::lengths::are_opened;
 use cold::store::ColdStore;
 use keys::key::Key;
-use marks::edits::SetKind;
 use rules::answers::{Refusal, Side, Swept};
-use rules::notices::{NoticeEvent, kind_after};
+use rules::notices::NoticeEvent;
 use rules::sheet::Sheet;
 use rules::tables::{HotRow, Kind, Line, Notice};
 use slots::change::edit_at;
@@ -25,14 +23,13 @@ fn empty_out<K: Key, R: Copy, C: ColdStore<K, R>>(
     due: Hit<Notice<K>>,
     kind: Kind,
 )
-    requires { in_order (C.ColdStore.entries cold.old) ≡ true }
     ensures notice { memo.new ≡ changed_at due.at (with_kind kind) memo.old }
     ensures entry { C.ColdStore.entries cold.new
         ≡ removed_after (C.ColdStore.entries cold.old) (K.Key.number due.it.key) due.it.tag }
     ensures limit { C.ColdStore.limit cold.new ≡ C.ColdStore.limit cold.old }
 {
     cold.remove(&due.it.key, due.it.tag);
-    edit_at(memo, due.at, &SetKind(kind));
+    edit_at(memo, due.at, |notice| notice.kind = kind);
 }
 
 // Takes up the first due notice: it is taken out, or emptied out.
@@ -43,7 +40,6 @@ pub fn sweep<K: Key, R: Copy, C: ColdStore<K, R>>(
     ledger: &[Line<K>],
     cold: &mut C,
 ) -> Result<Swept, Refusal>
-    requires { in_order (C.ColdStore.entries cold.old) ≡ true }
     ensures answer { (admits : ℕ → Bool) → told_swept result
         ≡ (sweep_rule K.Key.number (lent hot.now memo.old ledger.now)
         (store sheet.old hot.now memo.old ledger.now (C.ColdStore.entries cold.old)
@@ -54,25 +50,20 @@ pub fn sweep<K: Key, R: Copy, C: ColdStore<K, R>>(
         (store sheet.old hot.now memo.old ledger.now (C.ColdStore.entries cold.old)
         (C.ColdStore.limit cold.old) admits)).after }
 {
-    if !are_opened(sheet, hot, memo, ledger) {
+    if !sheet.is_lent(hot, memo, ledger) {
         return Err(Refusal::OutOfRange(Side::Mover));
     }
-    let found = first_due(sheet, hot, memo);
-    match found {
-        None => Ok(Swept::NoneDue),
-        Some(hit) => {
-            let after = kind_after(hit.it.kind, NoticeEvent::Empty);
-            match after {
-                None => {
-                    let notices = take_out(memo, sheet.memo_used, hit.at);
-                    sheet.memo_used = notices;
-                    Ok(Swept::Gone)
-                }
-                Some(kind) => {
-                    empty_out(memo, cold, hit, kind);
-                    Ok(Swept::Emptied)
-                }
-            }
+    let Some(hit) = first_due(sheet, hot, memo) else {
+        return Ok(Swept::NoneDue);
+    };
+    match hit.it.kind.after(NoticeEvent::Empty) {
+        None => {
+            sheet.memo_used = take_out(memo, sheet.memo_used, hit.at);
+            Ok(Swept::Gone)
+        }
+        Some(kind) => {
+            empty_out(memo, cold, hit, kind);
+            Ok(Swept::Emptied)
         }
     }
 }

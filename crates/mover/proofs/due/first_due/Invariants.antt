@@ -4,8 +4,7 @@ use Rattle.mover.specs.Due.{due_by}
 use Rattle.mover.proofs.due.first_due.Given as goal
 
 -- what is left gives the answer
-abbrev pub invariant-loop-i : goal.invariant-loop-i
-invariant-loop-i g l =
+abbrev pub invariant-loop-at : goal.invariant-loop-at
+invariant-loop-at g l =
     let p = due_by l.sheet (take l.sheet.hot_used l.hot) in
-    let xs = take l.sheet.memo_used l.memo in
-    hit_from p l.i (drop l.i xs) ≡ hit p xs
+    hit_from p l.at (drop l.at l.notices) ≡ hit p l.notices
