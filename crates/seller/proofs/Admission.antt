@@ -33,10 +33,6 @@ module _ {K R : Type 0} (lent : Lengths) (σ left : Store K R) (s : ℕ) (f : Mo
       go true false None = refl
       go true false (Some r) = refl
 
-  pub not_admitted : {e : Refusal} → Err e ≡ admitted lent σ s → refused e left ≡ if_lent Seller lent σ left (for_session σ left s f)
-  unfolding outcome
-  not_admitted q = ap outcome q ∙ admission
-
   pub is_admitted : {r : Reading} → Ok r ≡ admitted lent σ s → f r.mode r.time ≡ if_lent Seller lent σ left (for_session σ left s f)
   unfolding outcome
   is_admitted q = ap outcome q ∙ admission

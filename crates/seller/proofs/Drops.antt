@@ -25,7 +25,7 @@ use Rattle.scan.proofs.Lookups.{any_told}
 use Rattle.seller.specs.declared.ending.Ending.{Ending}
 use Rattle.seller.specs.Admitted.{admitted}
 use Rattle.seller.specs.Ending.{ending_of, ended_hot, ended_memo}
-use Rattle.seller.proofs.Admission.{not_admitted, is_admitted, entered}
+use Rattle.seller.proofs.Admission.{is_admitted, entered}
 use Rattle.seller.proofs.Endings.{by_ending, ends_looked, ended_notices, take_ended}
 use Rattle.seller.proofs.Looks.{short_is, lines_are}
 use Rattle.seller.proofs.Parts.{same_tables}
@@ -51,16 +51,7 @@ module _ {K R : Type 0} (number : K → ℕ) (sheet : Sheet) (hot : List (HotRow
       cond note (appended (length ledger) sheet.ledger_used (record { session = s; key = key }) (take sheet.ledger_used ledger))
       (take sheet.ledger_used ledger)
 
-  pub drop_refused : {e : Refusal} → Err e ≡ admitted (lent hot memo ledger) (bare sheet hot memo ledger) s
-      → refused e (untold σ) ≡ drop_rule number (lent hot memo ledger) σ s key
-  drop_refused q = not_admitted (lent hot memo ledger) σ (untold σ) s drops q
-
   module _ (r : Reading) (q : Ok r ≡ admitted (lent hot memo ledger) (bare sheet hot memo ledger) s) (n : ℕ) (told : n ≡ number key) where
-    pub drop_conflict : true ≡ conflict number σ s r.time n
-        → refused refusal.Conflict (untold σ) ≡ drop_rule number (lent hot memo ledger) σ s key
-    drop_conflict c =
-        sym (cond-true _ _ _ (sym (c ∙ ap (conflict number σ s r.time) told))) ∙ is_admitted (lent hot memo ledger) σ (untold σ) s drops q
-
     module _ (c : false ≡ conflict number σ s r.time n) (note : Bool) (new : note ≡ new_line number σ r.mode s n) where
       new_is : note ≡ new_line number σ r.mode s (number key)
       new_is = new ∙ ap (new_line number σ r.mode s) told

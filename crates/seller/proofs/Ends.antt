@@ -1,23 +1,19 @@
 -- How abandon and commit leave, each way against the rule.
-use Rattle.std.proofs.Common.{◌≡◌, ℕ, ◌+◌, ◌<◌, ◌≤◌, true, false, cond, not, leb, Ok, Err, sym, ◌∙◌}
+use Rattle.std.proofs.Common.{◌≡◌, ℕ, ◌+◌, ◌<◌, ◌≤◌, true, false, cond, not, leb, Ok, sym, ◌∙◌}
 use Rattle.std.proofs.lemmas.Bool.{cond-true, cond-false, le-leb, lt-leb, not_from_true, not_from_false}
 use Rattle.rules.specs.declared.sheet.Mode.{Mode}
 use Rattle.rules.specs.declared.sheet.Reading.{Reading}
-use Rattle.rules.specs.declared.answers.Refusal.{Refusal}
 use Rattle.rules.specs.declared.answers.Refusal.TheVariants as refusal
 use Rattle.rules.specs.declared.answers.Answer.TheVariants as answer
 use Rattle.rules.specs.Stores.{Store, Lengths}
 use Rattle.rules.specs.Outcomes.{Outcome, served, refused}
 use Rattle.rules.specs.Selling.{has_marks, stale, close, stamped, undone, abandon_rule, commit_rule}
 use Rattle.seller.specs.Admitted.{admitted}
-use Rattle.seller.proofs.Admission.{not_admitted, is_admitted}
+use Rattle.seller.proofs.Admission.{is_admitted}
 
 module _ {K R : Type 0} (lent : Lengths) (σ : Store K R) (s : ℕ) where
   abbrev abandoned : Mode → ℕ → Outcome K R
   abandoned mode t = served answer.Done (close (undone σ s) s)
-
-  pub abandon_refused : {e : Refusal} → Err e ≡ admitted lent σ s → refused e σ ≡ abandon_rule lent σ s
-  abandon_refused q = not_admitted lent σ σ s abandoned q
 
   pub abandon_served : {r : Reading} → Ok r ≡ admitted lent σ s → served answer.Done (close (undone σ s) s) ≡ abandon_rule lent σ s
   abandon_served q = is_admitted lent σ σ s abandoned q
@@ -29,9 +25,6 @@ module _ {K R : Type 0} (number : K → ℕ) (lent : Lengths) (σ : Store K R) (
       (cond (stale number σ mode s t) (refused refusal.StaleRead (close (undone σ s) s))
       (cond (leb 4000000000 σ.clock) (refused refusal.ClockAtEnd σ)
       (served (answer.At (σ.clock + 1)) (close (stamped σ s (σ.clock + 1)) s))))
-
-  pub commit_refused : {e : Refusal} → Err e ≡ admitted lent σ s → refused e σ ≡ commit_rule number lent σ s
-  commit_refused q = not_admitted lent σ σ s committed q
 
   module _ (r : Reading) (q : Ok r ≡ admitted lent σ s) where
     pub commit_unmarked : false ≡ has_marks σ s → served (answer.At 0) (close σ s) ≡ commit_rule number lent σ s

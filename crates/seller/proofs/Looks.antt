@@ -1,5 +1,5 @@
 -- The ledger's lines, and how read leaves, each way against the rule.
-use Rattle.std.proofs.Common.{◌≡◌, ℕ, ◌≤◌, Bool, true, false, cond, ◌&&◌, leb, List, ◌++◌, length, take, Ok, Err, Option, sym, refl, ap, ◌∙◌, option_map}
+use Rattle.std.proofs.Common.{◌≡◌, ℕ, ◌≤◌, Bool, true, false, cond, ◌&&◌, leb, List, ◌++◌, length, take, Ok, Option, sym, refl, ap, ◌∙◌, option_map}
 use Rattle.std.proofs.lemmas.Bool.{cond-true, cond-false, leb-false}
 use Rattle.slots.specs.Lists.{one, appended, count_with}
 use Rattle.slots.proofs.Slots.{appended_more}
@@ -10,7 +10,6 @@ use Rattle.rules.specs.declared.tables.Line.{Line}
 use Rattle.rules.specs.declared.sheet.Mode.{Mode}
 use Rattle.rules.specs.declared.sheet.Reading.{Reading}
 use Rattle.rules.specs.declared.sheet.Sheet.{Sheet}
-use Rattle.rules.specs.declared.answers.Refusal.{Refusal}
 use Rattle.rules.specs.declared.answers.Refusal.TheVariants as refusal
 use Rattle.rules.specs.declared.answers.Answer.TheVariants as answer
 use Rattle.rules.specs.Stores.{Store, store, lent, with_ledger, with_finds, ledger_full}
@@ -22,7 +21,7 @@ use Rattle.scan.specs.Told.{looked_at}
 use Rattle.scan.specs.declared.looked.Looked.{Looked}
 use Rattle.scan.proofs.Lookups.{row_told}
 use Rattle.seller.specs.Admitted.{admitted}
-use Rattle.seller.proofs.Admission.{not_admitted, is_admitted, entered}
+use Rattle.seller.proofs.Admission.{is_admitted, entered}
 use Rattle.seller.proofs.Parts.{with_count}
 
 -- a line that is to be entered goes to the end, where the ledger has room for it
@@ -45,10 +44,6 @@ module _ {K R : Type 0} (number : K → ℕ) (sheet : Sheet) (hot : List (HotRow
       cond (new_line number σ mode s (number key) && ledger_full σ) (refused refusal.LedgerFull (untold σ))
       (served (answer.Row (row_of (looked number σ s t (number key)).seen))
       (noted number (with_finds σ (looked number σ s t (number key)).finds) mode s key))
-
-  pub read_refused : {e : Refusal} → Err e ≡ admitted (lent hot memo ledger) (bare sheet hot memo ledger) s
-      → refused e (untold σ) ≡ read_rule number (lent hot memo ledger) σ s key
-  read_refused q = not_admitted (lent hot memo ledger) σ (untold σ) s reads q
 
   module _ (r : Reading) (q : Ok r ≡ admitted (lent hot memo ledger) (bare sheet hot memo ledger) s)
       (note : Bool) (new : note ≡ new_line number σ r.mode s (number key)) where

@@ -1,5 +1,5 @@
 -- How put leaves, each way against the rule.
-use Rattle.std.proofs.Common.{◌≡◌, ℕ, ◌<◌, ◌≤◌, Bool, true, false, cond, leb, List, ◌++◌, length, take, Some, None, Ok, Err, Result, sym, refl, ap, ◌∙◌, arith, position, Option}
+use Rattle.std.proofs.Common.{◌≡◌, ℕ, ◌<◌, ◌≤◌, Bool, false, cond, leb, List, ◌++◌, length, take, Some, None, Ok, Err, Result, sym, refl, ap, ◌∙◌, arith, position, Option}
 use Rattle.std.proofs.lemmas.Bool.{cond-true, cond-false, le-leb, lt-leb}
 use Rattle.slots.specs.Lists.{any, one, at_first, changed_at, appended}
 use Rattle.slots.proofs.Slots.{take_changed, appended_more}
@@ -25,7 +25,7 @@ use Rattle.scan.proofs.Placing.{place_changed, placed_some, placed_none}
 use Rattle.seller.specs.declared.ending.Ending.{Ending}
 use Rattle.seller.specs.Admitted.{admitted}
 use Rattle.seller.specs.Ending.{ending_of, ended_hot, ended_memo}
-use Rattle.seller.proofs.Admission.{not_admitted, is_admitted, entered}
+use Rattle.seller.proofs.Admission.{is_admitted, entered}
 use Rattle.seller.proofs.Endings.{by_ending, ends_looked, ended_notices, take_ended}
 use Rattle.seller.proofs.Parts.{same_tables}
 
@@ -42,16 +42,7 @@ module _ {K R : Type 0} (number : K → ℕ) (sheet : Sheet) (hot : List (HotRow
       cond (conflict number σ s t (number key)) (refused refusal.Conflict (untold σ))
       (cond (any (hot_own number s (number key)) σ.hot) (served answer.Done (replace_own number (untold σ) s key row)) (puts_new t))
 
-  pub put_refused : {e : Refusal} → Err e ≡ admitted (lent hot memo ledger) (bare sheet hot memo ledger) s
-      → refused e (untold σ) ≡ put_rule number (lent hot memo ledger) σ s key row
-  put_refused q = not_admitted (lent hot memo ledger) σ (untold σ) s puts q
-
   module _ (r : Reading) (q : Ok r ≡ admitted (lent hot memo ledger) (bare sheet hot memo ledger) s) (n : ℕ) (told : n ≡ number key) where
-    pub put_conflict : true ≡ conflict number σ s r.time n
-        → refused refusal.Conflict (untold σ) ≡ put_rule number (lent hot memo ledger) σ s key row
-    put_conflict c =
-        sym (cond-true _ _ _ (sym (c ∙ ap (conflict number σ s r.time) told))) ∙ is_admitted (lent hot memo ledger) σ (untold σ) s puts q
-
     module _ (c : false ≡ conflict number σ s r.time n) where
       apart : cond (any (hot_own number s (number key)) σ.hot) (served answer.Done (replace_own number (untold σ) s key row)) (puts_new r.time)
           ≡ put_rule number (lent hot memo ledger) σ s key row

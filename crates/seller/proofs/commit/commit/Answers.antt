@@ -2,37 +2,17 @@ use Rattle.std.proofs.Common.{ℕ, ◌+◌, Bool, List, refl, ap, ◌∙◌, rul
 use Rattle.cold.specs.Cold.{Entry}
 use Rattle.rules.specs.Stores.{Store, store, lent, with_clock}
 use Rattle.rules.specs.Selling.{close, stamp_row, stamp_notice}
-use Rattle.rules.specs.Told.{told_at}
 use Rattle.seller.proofs.Admission.{entered}
-use Rattle.seller.proofs.Ends.{commit_refused, commit_unmarked, commit_stale, commit_late, commit_stamped}
-use Rattle.seller.proofs.Parts.{answer_of, after_of, left_by, same_tables}
+use Rattle.seller.proofs.Ends.{commit_unmarked, commit_stale, commit_late, commit_stamped}
+use Rattle.seller.proofs.Parts.{answer_of, after_of, same_tables}
 use Rattle.seller.proofs.commit.commit.Goals as goal
 
-pub returns-in_err-reading : goal.returns-in_err-reading
-returns-in_err-reading g c =
-    let given = λ (es : List (Entry g.row.R.Denot)) (limit : ℕ) (admits : ℕ → Bool).
-    commit_refused g.K.Key.number (lent c.args.hot.now c.args.memo.now c.args.ledger.now)
-    (store c.args.sheet.now c.args.hot.now c.args.memo.now c.args.ledger.now es limit admits) c.args.session c.in_err-reading.ensures in
-    record {
-      answer = λ es limit admits.
-          ap told_at (left_by c.from_residual.result _ c.from_residual.ensures.1) ∙ ap answer_of (given es limit admits);
-      after = λ es limit admits. ap after_of (given es limit admits);
-    }
-
-pub close-requires : goal.close-requires
-close-requires g c =
-    (entered c.args.sheet.now c.args.hot.now c.args.memo.now c.args.ledger.now c.args.session
-    c.in_ok-reading.ensures).within
-
-pub returns-then-not-is_marked : goal.returns-then-not-is_marked
-returns-then-not-is_marked g c =
+pub returns-then-not-is_marked-clause-after : goal.returns-then-not-is_marked-clause-after
+returns-then-not-is_marked-clause-after g c =
     let given = λ (es : List (Entry g.row.R.Denot)) (limit : ℕ) (admits : ℕ → Bool).
     commit_unmarked g.K.Key.number (lent c.args.hot.now c.args.memo.now c.args.ledger.now)
     (store c.args.sheet.now c.args.hot.now c.args.memo.now c.args.ledger.now es limit admits) c.args.session c.in_ok-reading.reading c.in_ok-reading.ensures c.if-not-is_marked.ensures in
-    record {
-      answer = λ es limit admits. ap answer_of (given es limit admits);
-      after = λ es limit admits. c.close.ensures c.args.hot.now c.args.memo.now es limit admits ∙ ap after_of (given es limit admits);
-    }
+    λ es limit admits. c.close.ensures c.args.hot.now c.args.memo.now es limit admits ∙ ap after_of (given es limit admits)
 
 pub undo-requires : goal.undo-requires
 undo-requires g c =

@@ -1,37 +1,19 @@
 use Rattle.std.proofs.Common.{leb, length, sym, refl, ap, ◌∙◌, arith}
 use Rattle.rules.specs.Told.{told_was}
 use Rattle.seller.proofs.Admission.{entered}
-use Rattle.seller.proofs.Drops.{drop_refused, drop_conflict, drop_short, dropped_own, drop_unnoted, drop_served}
+use Rattle.seller.proofs.Drops.{drop_short, dropped_own, drop_unnoted, drop_served}
 use Rattle.seller.proofs.Endings.{ended_count}
 use Rattle.seller.proofs.Looks.{lined_count}
 use Rattle.seller.proofs.Parts.{answer_of, after_of, left_by, without_count}
 use Rattle.seller.proofs.drop.drop.Goals as goal
 
-pub returns-in_err-reading : goal.returns-in_err-reading
-returns-in_err-reading g c =
-    let given = drop_refused g.K.Key.number c.args.sheet.now c.args.hot.now c.args.memo.now c.args.ledger.now
-    (g.C.ColdStore.entries c.args.cold.now) (g.C.ColdStore.limit c.args.cold.now) (g.F.Filter.admitted c.args.filter.now)
-    c.args.session c.args.key c.in_err-reading.ensures in
-    record {
-      answer = ap told_was (left_by c.from_residual.result _ c.from_residual.ensures.1) ∙ ap answer_of given;
-      after = ap after_of given;
-    }
-
-pub returns-then-is_conflict : goal.returns-then-is_conflict
-returns-then-is_conflict g c =
-    let given = drop_conflict g.K.Key.number c.args.sheet.now c.args.hot.now c.args.memo.now c.args.ledger.now
-    (g.C.ColdStore.entries c.args.cold.now) (g.C.ColdStore.limit c.args.cold.now) (g.F.Filter.admitted c.args.filter.now)
-    c.args.session c.args.key c.in_ok-reading.reading c.in_ok-reading.ensures c.number-number.result c.number-number.ensures
-    c.if-is_conflict.ensures in
-    record { answer = ap answer_of given; after = ap after_of given }
-
-pub returns-then-is_ledger_short : goal.returns-then-is_ledger_short
-returns-then-is_ledger_short g c =
+pub returns-then-is_ledger_short-clause-after : goal.returns-then-is_ledger_short-clause-after
+returns-then-is_ledger_short-clause-after g c =
     let given = drop_short g.K.Key.number c.args.sheet.now c.args.hot.now c.args.memo.now c.args.ledger.now
     (g.C.ColdStore.entries c.args.cold.now) (g.C.ColdStore.limit c.args.cold.now) (g.F.Filter.admitted c.args.filter.now)
     c.args.session c.args.key c.in_ok-reading.reading c.in_ok-reading.ensures c.number-number.result c.number-number.ensures
     c.if-is_conflict.ensures c.is_line_new-note.result c.is_line_new-note.ensures c.if-is_ledger_short.ensures in
-    record { answer = ap answer_of given; after = ap after_of given }
+    ap after_of given
 
 pub invariant_of-sheet-in-Some : goal.invariant_of-sheet-in-Some
 invariant_of-sheet-in-Some g c =

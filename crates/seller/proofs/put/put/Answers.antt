@@ -4,26 +4,8 @@ use Rattle.rules.specs.Told.{told_done}
 use Rattle.seller.proofs.Admission.{entered}
 use Rattle.seller.proofs.Endings.{ended_count}
 use Rattle.seller.proofs.Parts.{answer_of, after_of, left_by, with_count}
-use Rattle.seller.proofs.Puts.{put_refused, put_conflict, put_own, put_full, put_unnoted, put_served}
+use Rattle.seller.proofs.Puts.{put_own, put_full, put_unnoted, put_served}
 use Rattle.seller.proofs.put.put.Goals as goal
-
-pub returns-in_err-reading : goal.returns-in_err-reading
-returns-in_err-reading g c =
-    let given = put_refused g.K.Key.number c.args.sheet.now c.args.hot.now c.args.memo.now c.args.ledger.now
-    (g.C.ColdStore.entries c.args.cold.now) (g.C.ColdStore.limit c.args.cold.now) (g.F.Filter.admitted c.args.filter.now)
-    c.args.session c.args.key c.args.row c.in_err-reading.ensures in
-    record {
-      answer = ap told_done (left_by c.from_residual.result _ c.from_residual.ensures.1) ∙ ap answer_of given;
-      after = ap after_of given;
-    }
-
-pub returns-then-is_conflict : goal.returns-then-is_conflict
-returns-then-is_conflict g c =
-    let given = put_conflict g.K.Key.number c.args.sheet.now c.args.hot.now c.args.memo.now c.args.ledger.now
-    (g.C.ColdStore.entries c.args.cold.now) (g.C.ColdStore.limit c.args.cold.now) (g.F.Filter.admitted c.args.filter.now)
-    c.args.session c.args.key c.args.row c.in_ok-reading.reading c.in_ok-reading.ensures c.number-number.result c.number-number.ensures
-    c.if-is_conflict.ensures in
-    record { answer = ap answer_of given; after = ap after_of given }
 
 pub returns-in-Some : goal.returns-in-Some
 returns-in-Some g c =

@@ -1,33 +1,22 @@
 use Rattle.std.proofs.Common.{length, take, ap, ◌∙◌, arith}
 use Rattle.rules.specs.Looking.{hot_sees}
 use Rattle.rules.specs.Selling.{new_line}
-use Rattle.rules.specs.Told.{told_row}
 use Rattle.scan.specs.Bare.{bare}
 use Rattle.std.specs.List.{position_or_len}
 use Rattle.seller.proofs.Admission.{entered}
-use Rattle.seller.proofs.Looks.{lined_count, read_refused, read_short, read_served}
-use Rattle.seller.proofs.Parts.{answer_of, after_of, left_by}
+use Rattle.seller.proofs.Looks.{lined_count, read_short, read_served}
+use Rattle.seller.proofs.Parts.{answer_of, after_of}
 use Rattle.seller.proofs.read.read.Goals as goal
 
-pub returns-in_err-reading : goal.returns-in_err-reading
-returns-in_err-reading g c =
-    let given = read_refused g.K.Key.number c.args.sheet.now c.args.hot.now c.args.memo.now c.args.ledger.now
-    (g.C.ColdStore.entries c.args.cold.now) (g.C.ColdStore.limit c.args.cold.now) (g.F.Filter.admitted c.args.filter.now)
-    c.args.session c.args.key c.in_err-reading.ensures in
-    record {
-      answer = ap told_row (left_by c.from_residual.result _ c.from_residual.ensures.1) ∙ ap answer_of given;
-      after = ap after_of given;
-    }
-
-pub returns-then-is_ledger_short : goal.returns-then-is_ledger_short
-returns-then-is_ledger_short g c =
+pub returns-then-is_ledger_short-clause-after : goal.returns-then-is_ledger_short-clause-after
+returns-then-is_ledger_short-clause-after g c =
     let σ = bare c.args.sheet.now c.args.hot.now c.args.memo.now c.args.ledger.now in
     let given = read_short g.K.Key.number c.args.sheet.now c.args.hot.now c.args.memo.now c.args.ledger.now
     (g.C.ColdStore.entries c.args.cold.now) (g.C.ColdStore.limit c.args.cold.now) (g.F.Filter.admitted c.args.filter.now)
     c.args.session c.args.key c.in_ok-reading.reading c.in_ok-reading.ensures c.is_line_new-note.result
     (c.is_line_new-note.ensures ∙ ap (λ k. new_line g.K.Key.number σ c.in_ok-reading.reading.mode c.args.session k) c.number-number.ensures)
     c.if-is_ledger_short.ensures in
-    record { answer = ap answer_of given; after = ap after_of given }
+    ap after_of given
 
 pub invariant_of-sheet-2 : goal.invariant_of-sheet-2
 invariant_of-sheet-2 g c =
