@@ -7,12 +7,11 @@ use Rattle.rules.specs.declared.answers.Refusal.{Refusal}
 use Rattle.rules.specs.declared.tables.HotRow.{HotRow}
 use Rattle.rules.specs.declared.tables.Notice.{Notice}
 use Rattle.rules.specs.declared.tables.Line.{Line}
-use Rattle.rules.specs.declared.answers.Answer.{Answer}
 use Rattle.rules.specs.Stores.{Store, with_tables}
-use Rattle.rules.specs.Outcomes.{Outcome}
+use Rattle.rules.specs.Outcomes.{Outcome, Told}
 
 module _ {K R : Type 0} where
-  abbrev pub answer_of : Outcome K R → Answer R
+  abbrev pub answer_of : Outcome K R → Told R
   answer_of o = o.answer
 
   abbrev pub after_of : Outcome K R → Store K R
