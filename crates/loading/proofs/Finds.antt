@@ -17,7 +17,7 @@ module _ {R : Type 0} where
     where
       go : (b q : Bool) → p x ≡ q → cond q (x ∷ filter p xs) (filter p xs) ≡ [] → (filter p xs ≡ [] → filter p (put_in e xs) ≡ e ∷ [])
           → filter p (cond b (x ∷ put_in e xs) (e ∷ (x ∷ xs))) ≡ e ∷ []
-      go b true f k i = absurd (let z : ◌≡◌ {A = ℕ} 0 1 = cc in let w : ⊥ = omega arith in w)
+      go b true f k i = absurd cc
       go true false f k i = cond-false (p x) _ _ f ∙ i k
       go false false f k i = cond-true (p e) _ _ h ∙ ap (λ ys. e ∷ ys) (cond-false (p x) _ _ f ∙ k)
 
@@ -31,8 +31,8 @@ module _ {R : Type 0} where
 
       go : (b q : Bool) → cond b (Err There) (cond q (Err (Full (length es))) (Ok (tt {0}))) ≡ Ok (tt {0})
           → own n 0 (cond b es (cond q es (put_in (record { number = n; tag = t; row = r }) es))) ≡ record { number = n; tag = t; row = r } ∷ []
-      go true q a = absurd (let z : ◌≡◌ {A = ℕ} 0 1 = cc in let w : ⊥ = omega arith in w)
-      go false true a = absurd (let z : ◌≡◌ {A = ℕ} 0 1 = cc in let w : ⊥ = omega arith in w)
+      go true q a = absurd cc
+      go false true a = absurd cc
       go false false a = kept_alone (is_own n 0) (record { number = n; tag = t; row = r }) es mine h
 
 found_again : (limit n t : ℕ) (r : ListingRow) (es : List (Entry ListingRow)) → own n 0 es ≡ [] → put_answer limit es n t ≡ Ok tt

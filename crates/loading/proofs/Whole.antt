@@ -1,18 +1,16 @@
 -- The text of an archive, put together.
-use Rattle.std.proofs.Common.{◌≡◌, ℕ, zero, suc, ◌+◌, ◌-◌, ◌^◌, ◌<◌, ◌≤◌, Bool, true, ltb, List, [], ◌∷◌, ◌++◌, length, get_or, drop, Some, None, Option, sym, refl, ap, ◌∙◌, append_assoc, arith}
+use Rattle.std.proofs.Common.{◌≡◌, ℕ, zero, suc, ◌+◌, ◌-◌, ◌^◌, ◌<◌, ◌≤◌, Bool, true, ltb, List, [], ◌∷◌, ◌++◌, length, get_or, Some, None, Ok, Err, Option, sym, refl, ap, ◌∙◌, append_assoc, arith}
 use Rattle.std.specs.Option.{SomeIff}
 use Rattle.std.proofs.lemmas.List.{append-nil}
 use Rattle.std.proofs.lemmas.Bool.{and_parts, cond-true, cond-false}
 use Rattle.std.proofs.lemmas.Bool.Decides.{nat_tests}
 use Rattle.keys.specs.declared.rows.ListingRow.{ListingRow}
-use Rattle.text.specs.Parts.{first}
 use Rattle.cold.specs.Lists.{all}
 use Rattle.cold.specs.Cold.{Entry}
 use Rattle.records.specs.Writing.{entry_text, entries_text, count_good, summary_text}
-use Rattle.records.specs.declared.record.Entry as line
-use Rattle.records.specs.declared.record.Entry.TheVariants.{Good, Bad}
+use Rattle.records.specs.Entries as line
 use Rattle.records.specs.declared.record.Record.{Record}
-use Rattle.records.proofs.Texts.{before}
+use Rattle.loading.proofs.Texts.{before}
 use Rattle.loading.specs.Loading.{loaded, served, first_row, row_behind}
 use Rattle.loading.specs.Text.{same_rows, find_text, loaded_text}
 use Rattle.loading.specs.Report.{
@@ -31,41 +29,41 @@ use Rattle.loading.specs.Report.{
 
 -- an archive on its way: what is written and kept, with what the entries that are left add, is the whole
 module _ (out : List ℕ) (rs : List Record) {text : List ℕ} {total : List Record} where
-  pub read_more : (es rest : List line.Entry) (e : line.Entry) (new : List ℕ) (more : List Record) → Some e ≡ first es → rest ≡ drop 1 es
+  pub read_more : (es rest : List line.Entry) (e : line.Entry) (new : List ℕ) (more : List Record) → es ≡ e ∷ rest
       → new ≡ out ++ entry_text e → more ≡ rs ++ good e
       → (out ++ entries_text es ≡ text) × (rs ++ goods es ≡ total) → (new ++ entries_text rest ≡ text) × (more ++ goods rest ≡ total)
   unfolding entries_text goods
-  read_more [] rest e new more s d f k inv = absurd (let z : ◌≡◌ {A = ℕ} 0 1 = cc in omega arith)
-  read_more (x ∷ xs) rest e new more s d f k inv =
-      let p : e ≡ x = cc in (
-        ap (λ z. new ++ entries_text z) d ∙ ap (λ z. z ++ entries_text xs) (f ∙ ap (λ z. out ++ entry_text z) p)
-            ∙ append_assoc out (entry_text x) (entries_text xs) ∙ inv.0,
-        ap (λ z. more ++ goods z) d ∙ ap (λ z. z ++ goods xs) (k ∙ ap (λ z. rs ++ good z) p) ∙ append_assoc rs (good x) (goods xs) ∙ inv.1,
-      )
+  read_more es rest e new more s f k inv = (
+    ap (λ z. z ++ entries_text rest) f ∙ append_assoc out (entry_text e) (entries_text rest)
+        ∙ ap (λ z. out ++ entries_text z) (sym s) ∙ inv.0,
+    ap (λ z. z ++ goods rest) k ∙ append_assoc rs (good e) (goods rest) ∙ ap (λ z. rs ++ goods z) (sym s) ∙ inv.1,
+  )
 
-  pub read_done : (es : List line.Entry) → None ≡ first es → (out ++ entries_text es ≡ text) × (rs ++ goods es ≡ total) → (out ≡ text) × (rs ≡ total)
+  pub read_done : (es : List line.Entry) → es ≡ [] → (out ++ entries_text es ≡ text) × (rs ++ goods es ≡ total) → (out ≡ text) × (rs ≡ total)
   unfolding entries_text goods
-  read_done [] s inv = (sym (append-nil out) ∙ inv.0, sym (append-nil rs) ∙ inv.1)
-  read_done (x ∷ xs) s inv = absurd (let z : ◌≡◌ {A = ℕ} 0 1 = cc in omega arith)
+  read_done es s inv = (
+    sym (append-nil out) ∙ ap (λ z. out ++ entries_text z) (sym s) ∙ inv.0,
+    sym (append-nil rs) ∙ ap (λ z. rs ++ goods z) (sym s) ∙ inv.1,
+  )
 
 pub length_goods : (es : List line.Entry) → length (goods es) ≡ count_good es
 unfolding goods count_good
 length_goods [] = refl
-length_goods (Good r ∷ es) = omega (arith, length_goods es)
-length_goods (Bad ∷ es) = omega (arith, length_goods es)
+length_goods (Ok r ∷ es) = omega (arith, length_goods es)
+length_goods (Err b ∷ es) = omega (arith, length_goods es)
 
 -- the number after the last
 pub next_none : (rs : List Record) → length rs ≤ 0 → Some 0 ≡ next_number rs
 unfolding next_number
 next_none [] h = refl
-next_none (r ∷ rs) h = absurd (let z : ⊥ = omega arith in z)
+next_none (r ∷ rs) h = absurd (omega arith)
 
 next_at : (rs : List Record) (i : ℕ) (x : Record) → length rs ≡ suc i → x ≡ get_or rs i x → number_after x.key.id ≡ next_number rs
 unfolding next_number
-next_at [] i x l e = absurd (let z : ⊥ = omega arith in z)
+next_at [] i x l e = absurd (omega arith)
 next_at (r ∷ []) zero x l e = ap (λ (z : Record). number_after z.key.id) e
-next_at (r ∷ []) (suc i) x l e = absurd (let z : ⊥ = omega arith in z)
-next_at (r ∷ (s ∷ rs)) zero x l e = absurd (let z : ⊥ = omega arith in z)
+next_at (r ∷ []) (suc i) x l e = absurd (omega arith)
+next_at (r ∷ (s ∷ rs)) zero x l e = absurd (omega arith)
 next_at (r ∷ (s ∷ rs)) (suc i) x l e = next_at (s ∷ rs) i x (omega arith) e
 
 after_is : (r : Option ℕ) (n : ℕ) → SomeIff r (n + 1 < 2 ^ 64) (n + 1) → r ≡ number_after n

@@ -1,21 +1,20 @@
 -- All that is written for an archive whose records are loaded and found again.
-use Rattle.std.specs.Prelude.{ℕ, ◌+◌, ◌^◌, Bool, cond, List, [], ◌∷◌, ◌++◌, length, Some, None, codes, Option, nat_lt}
+use Rattle.std.specs.Prelude.{ℕ, ◌+◌, ◌^◌, Bool, cond, List, [], ◌∷◌, ◌++◌, length, Some, None, Ok, Err, codes, Option, nat_lt}
 use Rattle.keys.specs.declared.rows.ListingRow.{ListingRow}
 use Rattle.text.specs.Parts.{lines}
 use Rattle.text.specs.Numbers.{decimal_text}
 use Rattle.cold.specs.Cold.{Entry}
+use Rattle.records.specs.Entries as line
 use Rattle.records.specs.Entries.{entries}
-use Rattle.records.specs.Writing.{entries_text, count_good, summary_text}
-use Rattle.records.specs.declared.record.Entry as line
-use Rattle.records.specs.declared.record.Entry.TheVariants.{Good, Bad}
+use Rattle.records.specs.Writing.{found_text, entries_text, count_good, summary_text}
 use Rattle.records.specs.declared.record.Record.{Record}
 use Rattle.loading.specs.Loading.{loaded, served, first_row, row_behind}
-use Rattle.loading.specs.Text.{row_or_none, find_text, absent_text, loaded_text}
+use Rattle.loading.specs.Text.{find_text, absent_text, loaded_text}
 
 -- the record of an entry, if it is one
 abbrev pub good : line.Entry → List Record
-good (Good r) = r ∷ []
-good Bad = []
+good (Ok r) = r ∷ []
+good (Err b) = []
 
 unfoldable pub goods : List line.Entry → List Record
 goods [] = []
@@ -55,7 +54,7 @@ loads_text bloom band m sorted n blocks rs =
 -- both stores answer a find with the same row, and no line says that they differ
 abbrev pub agree_text : ℕ → Option ListingRow → List ℕ
 agree_text n row =
-    codes "found k=" ++ (decimal_text n ++ (codes " sorted=" ++ (row_or_none row ++ (codes " blocks=" ++ (row_or_none row ++ codes "\n")))))
+    codes "found k=" ++ (decimal_text n ++ (codes " sorted=" ++ (found_text row ++ (codes " blocks=" ++ (found_text row ++ codes "\n")))))
 
 unfoldable pub agrees_text : List (Entry ListingRow) → List Record → List ℕ
 agrees_text es [] = []

@@ -2,11 +2,7 @@
 use Rattle.std.specs.Prelude.{ℕ, Bool, true, false, cond, ◌&&◌, List, [], ◌++◌, Some, None, codes, Option, ◌==◌}
 use Rattle.keys.specs.declared.rows.ListingRow.{ListingRow}
 use Rattle.text.specs.Numbers.{decimal_text}
-use Rattle.records.specs.Writing.{row_text}
-
-abbrev pub row_or_none : Option ListingRow → List ℕ
-row_or_none (Some r) = row_text r
-row_or_none None = codes "none"
+use Rattle.records.specs.Writing.{bit_text, found_text}
 
 -- whether two finds answer the same
 abbrev pub same_rows : Option ListingRow → Option ListingRow → Bool
@@ -22,15 +18,11 @@ differ_text n sorted blocks = cond (same_rows sorted blocks) [] (codes "differ k
 -- the end of a find's line, and what follows it
 abbrev pub rows_text : ℕ → Option ListingRow → Option ListingRow → List ℕ
 rows_text n sorted blocks =
-    codes " sorted=" ++ (row_or_none sorted ++ (codes " blocks=" ++ (row_or_none blocks ++ (codes "\n" ++ differ_text n sorted blocks))))
+    codes " sorted=" ++ (found_text sorted ++ (codes " blocks=" ++ (found_text blocks ++ (codes "\n" ++ differ_text n sorted blocks))))
 
 -- found k=NUMBER sorted=ROW blocks=ROW
 abbrev pub find_text : ℕ → Option ListingRow → Option ListingRow → List ℕ
 find_text n sorted blocks = codes "found k=" ++ (decimal_text n ++ rows_text n sorted blocks)
-
-abbrev pub bit_text : Bool → List ℕ
-bit_text true = codes "1"
-bit_text false = codes "0"
 
 -- absent k=NUMBER bloom=BIT band=BIT sorted=ROW blocks=ROW
 abbrev pub absent_text : ℕ → Bool → Bool → Option ListingRow → Option ListingRow → List ℕ

@@ -26,7 +26,6 @@ pub fn add_all<F: Filter>(filter: &mut F, records: &[Record])
 
 // Puts the records into a store, with tags from 1 on, and tells how many puts were served.
 pub(crate) fn load_all<C: ColdStore<Listing, ListingRow>>(store: &mut C, records: &[Record]) -> u64
-    requires order { in_order (C.ColdStore.entries store.old) ≡ true }
     requires few { length records.now < 2 ^ 32 - 1 }
     ensures count { result
         ≡ served (C.ColdStore.limit store.old) (C.ColdStore.entries store.old) 1 records.now }
@@ -58,8 +57,6 @@ pub fn push_finds<
     blocks: &B,
     band: &G,
 ) -> Result<(), AllocError>
-    requires sorted { in_order (A.ColdStore.entries sorted.now) ≡ true }
-    requires blocks { in_order (B.ColdStore.entries blocks.now) ≡ true }
     ensures { OnOk result (out.new.items
         ≡ out.old.items
         ++ finds_text (F.Filter.admitted bloom.now) (A.ColdStore.entries sorted.now)

@@ -11,7 +11,6 @@ use records::record::Record;
 
 // Puts a record into a store with a tag, and tells whether the put was served. The entries stay in order.
 pub fn load<C: ColdStore<Listing, ListingRow>>(store: &mut C, tag: u32, read: &Record) -> bool
-    requires { in_order (C.ColdStore.entries store.old) ≡ true }
     ensures answer { result
         ≡ is_ok (put_answer (C.ColdStore.limit store.old) (C.ColdStore.entries store.old) read.now.key.id tag) }
     ensures after { C.ColdStore.entries store.new
@@ -29,7 +28,6 @@ pub fn find_row<C: ColdStore<Listing, ListingRow>, F: Filter>(
     filter: &F,
     key: &Listing,
 ) -> Option<ListingRow>
-    requires { in_order (C.ColdStore.entries store.now) ≡ true }
     ensures { result
         ≡ row_behind (F.Filter.admitted filter.now key.now.id) (C.ColdStore.entries store.now)
         key.now.id }
@@ -37,10 +35,7 @@ pub fn find_row<C: ColdStore<Listing, ListingRow>, F: Filter>(
     if !filter.admits(key.number()) {
         return None;
     }
-    match store.find(key, 0) {
-        Some(found) => Some(found.row),
-        None => None,
-    }
+    store.find(key, 0).map(|found| found.row)
 }
 
 // Loads a record, adds its number to the filter, and finds it again. Whatever the filter is, a key that had no entry is found
@@ -51,7 +46,6 @@ pub fn load_and_find<C: ColdStore<Listing, ListingRow>, F: Filter>(
     tag: u32,
     read: &Record,
 ) -> Option<ListingRow>
-    requires { in_order (C.ColdStore.entries store.old) ≡ true }
     ensures value { result ≡ row_behind true (C.ColdStore.entries store.new) read.now.key.id }
     ensures after { C.ColdStore.entries store.new
         ≡ put_after (C.ColdStore.limit store.old) (C.ColdStore.entries store.old) read.now.key.id tag

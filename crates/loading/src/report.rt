@@ -25,16 +25,13 @@ use records::writing::{push_entry, push_summary};
 use std::alloc::{AllocError, Global};
 
 // Keeps the record of an entry, if it is one.
-fn keep(records: &mut Vec<Record>, entry: &Entry) -> Result<(), AllocError>
-    ensures { OnOk result (records.new.items ≡ records.old.items ++ good entry.now) }
+fn keep(records: &mut Vec<Record>, entry: Entry) -> Result<(), AllocError>
+    ensures { OnOk result (records.new.items ≡ records.old.items ++ good entry) }
 {
-    match entry {
-        Entry::Good(read) => {
-            records.push(*read)?;
-            Ok(())
-        }
-        Entry::Bad => Ok(()),
+    if let Ok(read) = entry {
+        records.push(read)?;
     }
+    Ok(())
 }
 
 // Appends a line for each line of an archive's text, and gives the records in order.
@@ -43,10 +40,9 @@ fn read_all(heap: Global, out: &mut Vec<u8>, input: &[u8]) -> Result<Vec<Record>
         × (out.new.items ≡ out.old.items ++ entries_text (entries None (lines input.now)))) }
 {
     let mut records = Vec::new(heap);
-    let mut left = Entries::of(input);
-    while let Some(entry) = left.next() {
+    for entry in Entries::of(input) {
         push_entry(out, &entry)?;
-        keep(&mut records, &entry)?;
+        keep(&mut records, entry)?;
     }
     Ok(records)
 }
@@ -75,8 +71,6 @@ fn push_next<
     blocks: &B,
     band: &G,
 ) -> Result<(), AllocError>
-    requires sorted { in_order (A.ColdStore.entries sorted.now) ≡ true }
-    requires blocks { in_order (B.ColdStore.entries blocks.now) ≡ true }
     ensures { OnOk result (out.new.items
         ≡ out.old.items
         ++ next_text (F.Filter.admitted bloom.now) (A.ColdStore.entries sorted.now)
@@ -113,8 +107,6 @@ fn load_both<
     blocks: &mut B,
     band: &mut G,
 ) -> Result<(), AllocError>
-    requires sorted { in_order (A.ColdStore.entries sorted.old) ≡ true }
-    requires blocks { in_order (B.ColdStore.entries blocks.old) ≡ true }
     requires few { length records.now < 2 ^ 32 - 1 }
     ensures { OnOk result (
         (out.new.items

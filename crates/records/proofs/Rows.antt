@@ -1,4 +1,4 @@
-use Rattle.std.proofs.Common.{◌≡◌, ℕ, ◌^◌, ◌<◌, true, false, List, [], ◌∷◌, drop, is_some, Some, None, Option, sym, refl, ap, ◌∙◌, mod-eq_of_lt, arith}
+use Rattle.std.proofs.Common.{◌≡◌, ℕ, ◌^◌, ◌<◌, true, false, List, [], ◌∷◌, drop, is_some, Some, None, Option, sym, refl, ap, ◌∙◌, mod-eq_of_lt}
 use native.Mathlib.Bridge.{le_prop}
 use Rattle.std.specs.Option.{option_map}
 use Rattle.keys.specs.Ext.{listing_ext, same_record}
@@ -22,13 +22,13 @@ listing_is k = same_record (λ (n : ℕ). n < 2 ^ 64) (λ n p. record { id = n; 
 row_three : (ps : List (List ℕ)) (p s q : ℕ) → Some p ≡ next_number 4294967295 ps → Some s ≡ next_number 65535 (drop 1 ps)
     → Some q ≡ next_number 4294967295 (drop 1 (drop 1 ps))
     → false ≡ is_some (first (drop 1 (drop 1 (drop 1 ps)))) → Some (row_from p s q) ≡ row_parts ps
-row_three [] p s q e f g h = absurd (let z : ◌≡◌ {A = ℕ} 0 1 = cc in omega arith)
-row_three (a ∷ []) p s q e f g h = absurd (let z : ◌≡◌ {A = ℕ} 0 1 = cc in omega arith)
-row_three (a ∷ (b ∷ [])) p s q e f g h = absurd (let z : ◌≡◌ {A = ℕ} 0 1 = cc in omega arith)
+row_three [] p s q e f g h = absurd cc
+row_three (a ∷ []) p s q e f g h = absurd cc
+row_three (a ∷ (b ∷ [])) p s q e f g h = absurd cc
 row_three (a ∷ (b ∷ (d ∷ []))) p s q e f g h =
     ap (λ x. row_read x (Some s) (Some q)) e ∙ ap (λ x. row_read (decimal_of 4294967295 a) x (Some q)) f
     ∙ ap (row_read (decimal_of 4294967295 a) (decimal_of 65535 b)) g
-row_three (a ∷ (b ∷ (d ∷ (more ∷ others)))) p s q e f g h = absurd (let z : ◌≡◌ {A = ℕ} 0 1 = cc in omega arith)
+row_three (a ∷ (b ∷ (d ∷ (more ∷ others)))) p s q e f g h = absurd cc
 
 -- the same as the reader has it, part by part
 pub row_whole : (ps one two three : List (List ℕ)) (r : ListingRow) → Some r.price ≡ next_number 4294967295 ps → one ≡ drop 1 ps
@@ -48,13 +48,13 @@ mapped_some f (Some x) = refl
 record_two : (ws : List (List ℕ)) (k v : Meant) (n : ℕ) (r : ListingRow) → Some k ≡ option_map word_of (first ws)
     → Some v ≡ option_map word_of (first (drop 1 ws)) → false ≡ is_some (first (drop 1 (drop 1 ws)))
     → Some n ≡ key_in k → Some r ≡ row_in v → Some (record { key = listing n; row = r }) ≡ record_words ws
-record_two [] k v n r e f h a b = absurd (let z : ◌≡◌ {A = ℕ} 0 1 = cc in omega arith)
-record_two (x ∷ []) k v n r e f h a b = absurd (let z : ◌≡◌ {A = ℕ} 0 1 = cc in omega arith)
+record_two [] k v n r e f h a b = absurd cc
+record_two (x ∷ []) k v n r e f h a b = absurd cc
 record_two (x ∷ (y ∷ [])) k v n r e f h a b =
     let p : k ≡ word_of x = cc in
     let q : v ≡ word_of y = cc in
     ap (λ z. record_read z (Some r)) (a ∙ ap key_in p) ∙ ap (record_read (key_in (word_of x))) (b ∙ ap row_in q)
-record_two (x ∷ (y ∷ (more ∷ others))) k v n r e f h a b = absurd (let z : ◌≡◌ {A = ℕ} 0 1 = cc in omega arith)
+record_two (x ∷ (y ∷ (more ∷ others))) k v n r e f h a b = absurd cc
 
 pub record_whole : (ws one two : List (List ℕ)) (k v : Meant) (r : Record) → Some k ≡ option_map word_of (first ws) → one ≡ drop 1 ws
     → Some v ≡ option_map word_of (first one) → two ≡ drop 1 one
@@ -67,7 +67,7 @@ record_whole ws one two k v r e d f d2 h a b =
 record_three : (ws : List (List ℕ)) → true ≡ is_some (first (drop 1 (drop 1 ws))) → None ≡ record_words ws
 record_three [] h = refl
 record_three (x ∷ []) h = refl
-record_three (x ∷ (y ∷ [])) h = absurd (let z : ◌≡◌ {A = ℕ} 0 1 = cc in omega arith)
+record_three (x ∷ (y ∷ [])) h = absurd cc
 record_three (x ∷ (y ∷ (more ∷ others))) h = refl
 
 pub record_long : (ws one two : List (List ℕ)) → one ≡ drop 1 ws → two ≡ drop 1 one → true ≡ is_some (first two) → None ≡ record_words ws

@@ -1,5 +1,5 @@
 ghost use Rattle.std.specs.Prelude.{◌≡◌, ◌++◌, Some, OnOk};
-ghost use Rattle.records.specs.Writing.{hex_text, found_text, record_text, bad_line_text, entry_text, summary_text};
+ghost use Rattle.records.specs.Writing.{hex_text, bit_text, found_text, record_text, bad_line_text, entry_text, summary_text};
 
 use crate::record::{BadLine, Entry, Record};
 use keys::packing::Packed;
@@ -23,11 +23,25 @@ impl fmt::Display for Hex<'_> {
     }
 }
 
+// Written 1 for true and 0 for false.
+#[derive(Clone, Copy, Debug, PartialEq, Eq)]
+pub struct Bit(pub bool);
+
+impl fmt::Display for Bit {
+    ghost output = { λ b. Some (bit_text b.0) };
+
+    #[tactic(auto, using(crate::proofs::Digits::bit_digit))]
+    fn fmt<W: fmt::Write>(&self, f: &mut fmt::Formatter<W>) -> fmt::Result {
+        let bit = u8::from(self.0);
+        write!(f, "{bit}")
+    }
+}
+
 // What a find gave, written PRICE,SEATS,SELLER or none.
 #[derive(Clone, Copy, Debug, PartialEq, Eq)]
-pub struct Found(pub Option<ListingRow>);
+pub struct RowOrNone(pub Option<ListingRow>);
 
-impl fmt::Display for Found {
+impl fmt::Display for RowOrNone {
     ghost output = { λ f. Some (found_text f.0) };
 
     fn fmt<W: fmt::Write>(&self, f: &mut fmt::Formatter<W>) -> fmt::Result {

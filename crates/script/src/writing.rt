@@ -2,7 +2,7 @@ ghost use Rattle.std.specs.Prelude.{◌≡◌, ◌++◌, codes, Some, OnOk};
 ghost use Rattle.script.specs.Replies.{did_text, bad_text, answer_text, reply_text};
 
 use crate::reply::{Answered, BadRequest, Reply};
-use records::writing::Found;
+use records::writing::{Bit, RowOrNone};
 use rules::answers::{Answer, Swept};
 use std::alloc::AllocError;
 use std::fmt;
@@ -23,17 +23,16 @@ fn did(swept: Swept) -> &'static str
 impl fmt::Display for Answered {
     ghost output = { λ a. Some (answer_text a.kind a.told) };
 
-    #[tactic(auto, using(records::proofs::Digits::bit_digit))]
     fn fmt<W: fmt::Write>(&self, f: &mut fmt::Formatter<W>) -> fmt::Result {
         let kind = self.kind;
         match self.told {
             Ok(Answer::Done) => write!(f, "ok={kind}"),
             Ok(Answer::Row(row)) => {
-                let found = Found(row);
+                let found = RowOrNone(row);
                 write!(f, "ok={kind} v={found}")
             }
             Ok(Answer::Was(there)) => {
-                let was = u8::from(there);
+                let was = Bit(there);
                 write!(f, "ok={kind} was={was}")
             }
             Ok(Answer::At(stamp)) => write!(f, "ok={kind} at={stamp}"),

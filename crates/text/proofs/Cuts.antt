@@ -45,7 +45,7 @@ module _ (at : ℕ) (last : List (List ℕ)) where
 
   -- a text without that byte is one part
   alone : (b : ℕ) (x y : List (List ℕ)) (t : Bool) (m n : ℕ) → cond t 0 (suc m) ≡ suc n → (cond t x y ≡ y) × (m ≡ n)
-  alone b x y true m n e = absurd (let z : ⊥ = omega arith in z)
+  alone b x y true m n e = absurd (omega arith)
   alone b x y false m n e = (refl, omega arith)
 
   cut_none : ((b : ℕ) → onto b last ≡ (b ∷ []) ∷ []) → (b : ℕ) (bs : List ℕ) → count_to at (b ∷ bs) ≡ length (b ∷ bs)
@@ -64,7 +64,7 @@ split_none at (b ∷ bs) h = cut_none at ([] ∷ []) (λ b. refl) b bs h
 pub lines_empty : (bs : List ℕ) → length bs ≡ 0 → lines bs ≡ []
 unfolding cut
 lines_empty [] h = refl
-lines_empty (b ∷ bs) h = absurd (let z : ⊥ = omega arith in z)
+lines_empty (b ∷ bs) h = absurd (omega arith)
 
 pub lines_none : (bs : List ℕ) → (length bs ≡ 0 → ⊥) → count_to 10 bs ≡ length bs → lines bs ≡ bs ∷ []
 lines_none [] n h = absurd (n refl)
@@ -101,7 +101,7 @@ join_split at (b ∷ bs) = join_step at b (split at bs) bs (eqb b at) (eqb-true 
 ended : (bs : List ℕ) → lines bs ≡ [] → bs ≡ []
 unfolding cut
 ended [] e = refl
-ended (b ∷ bs) e = absurd (let z : ⊥ = omega (arith, some_step b (lines bs) (eqb b 10), ap length e) in z)
+ended (b ∷ bs) e = absurd (omega (arith, some_step b (lines bs) (eqb b 10), ap length e))
 
 lines_step : (b : ℕ) (x : List (List ℕ)) (bs : List ℕ) (t : Bool) → (t ≡ true → b ≡ 10) → (x ≡ [] → bs ≡ [])
     → (join 10 x ≡ bs) ⊎ (join 10 x ++ (10 ∷ []) ≡ bs)

@@ -16,12 +16,12 @@ loop-read-preserved g c =
     c.loop-read-test.true c.read-item.is inv.2 c.load.ensures.after c.load.ensures.answer c.from-count.ensures
     inv.0 inv.1 in
     let fits : c.loop-read.count + c.from-count.result ≤ c.loop-read.read-index + 1 =
-    omega (arith, byte_le c.load.result, c.from-count.ensures, inv.5) in
-    (p.0, p.1, c.load.ensures.limit ∙ inv.2, c.load.ensures.order, omega (arith, inv.4), fits)
+    omega (arith, byte_le c.load.result, c.from-count.ensures, inv.4) in
+    (p.0, p.1, c.load.ensures.limit ∙ inv.2, omega (arith, inv.3), fits)
 
 pub returns : goal.returns
 returns g c =
     let inv = c.loop-read.invariant in
     let p = load_done (g.C.ColdStore.limit c.args.store.now) c.args.records.now c.loop-read.read-index c.loop-read.tag
     c.loop-read.count (g.C.ColdStore.entries c.loop-read.store) c.loop-read-test.false inv.0 inv.1 in
-    record { count = p.1; after = p.0; limit = inv.2; order = inv.3 }
+    record { count = p.1; after = p.0; limit = inv.2; order = g.met.C.ColdStore.ordered c.loop-read.store }

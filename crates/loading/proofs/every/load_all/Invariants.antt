@@ -1,5 +1,4 @@
-use Rattle.std.proofs.Common.{◌≡◌, ◌+◌, ◌≤◌, true, drop}
-use Rattle.cold.specs.Cold.{in_order}
+use Rattle.std.proofs.Common.{◌≡◌, ◌+◌, ◌≤◌, drop}
 use Rattle.loading.specs.Loading.{loaded, served}
 use Rattle.loading.proofs.every.load_all.Given as goal
 
@@ -13,6 +12,5 @@ invariant-loop-read g l =
     (loaded limit now l.tag left ≡ loaded limit es 1 l.records)
     × (l.count + served limit now l.tag left ≡ served limit es 1 l.records)
     × (g.C.ColdStore.limit l.store ≡ limit)
-    × (in_order now ≡ true)
     × (l.tag ≡ l.read-index + 1)
     × (l.count ≤ l.read-index)

@@ -2,25 +2,19 @@ use Rattle.std.proofs.Common.{ℕ, Bool, length, None, sym, ap, ◌∙◌, arith
 use Rattle.filter.specs.Band.{in_band}
 use Rattle.filter.specs.Bloom.{in_bloom}
 use Rattle.text.specs.Parts.{lines}
-use Rattle.cold.proofs.Meaning.{order_none}
 use Rattle.records.specs.Entries.{entries}
 use Rattle.records.proofs.Rising.{count_fits}
 use Rattle.loading.proofs.Whole.{length_goods, report_whole}
 use Rattle.loading.proofs.report.report.Goals as goal
 
 pub load_both-requires : goal.load_both-requires
-load_both-requires c = record {
-  sorted = order_none _ c.in-Ok.ensures.made.0;
-  blocks = order_none _ c.in-Ok-new.ensures.made.0;
-  few =
-      omega (
-        arith,
-        ap length (c.deref.ensures.value ∙ c.in_ok-records.ensures.0),
-        length_goods (entries None (lines c.args.input.now)),
-        count_fits c.args.input.now,
-        c.requires,
-      );
-}
+load_both-requires c = omega (
+  arith,
+  ap length (c.deref.ensures.value ∙ c.in_ok-records.ensures.0),
+  length_goods (entries None (lines c.args.input.now)),
+  count_fits c.args.input.now,
+  c.requires,
+)
 
 pub returns : goal.returns
 returns c =
