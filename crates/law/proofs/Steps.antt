@@ -16,7 +16,7 @@ use Rattle.rules.specs.Stores.{Store, Lengths, same_lengths, session_at, opened_
 use Rattle.rules.specs.Outcomes.{Told, Outcome, served, refused, untold, if_open, if_lent, for_session}
 use Rattle.rules.specs.Looking.{conflict, looked}
 use Rattle.rules.specs.Selling.{begin_rule, read_rule, put_rule, drop_rule, commit_rule, abandon_rule, new_line, hot_own, wants_notice, has_marks, stale}
-use Rattle.rules.specs.Moving.{choose_rule, copy_rule, settle_rule, give_up_rule, sweep_rule, collect_rule, choose_row, copy_row, settle_row, sweep_notice, movable, row_chosen, row_copied, row_bears, unmoved, due}
+use Rattle.rules.specs.Moving.{choose_rule, copy_rule, settle_rule, give_up_rule, sweep_rule, collect_rule, choose_row, copy_row, settle_row, sweep_notice, movable, row_chosen, row_copied, row_bears, unmoved, due, HasMore}
 use Rattle.versions.specs.History.{History, feed}
 use Rattle.cells.proofs.Cells.{Whole}
 use Rattle.cells.proofs.Collecting.{whole_collect}
@@ -29,7 +29,7 @@ use Rattle.cells.proofs.Beginning.{whole_ledger, whole_finds, whole_begin}
 use Rattle.cells.proofs.Committing.{whole_commit}
 use Rattle.cells.proofs.Abandoning.{whole_abandon, whole_unmarked}
 use Rattle.cells.proofs.Putting.{whole_replace_own, whole_drop_own, whole_put, whole_drop}
-use Rattle.law.specs.Runs.{Event, Grown, Step, Runs}
+use Rattle.law.specs.Runs.{Event, Step, Runs}
 use Rattle.law.proofs.Past.{feeds}
 
 pub same_lengths_self : (l : Lengths) → same_lengths l l ≡ true
@@ -118,13 +118,13 @@ module _ {K R : Type 0} (number : K → ℕ) where
             (λ _. whole_choose number σ T w k h e (not-false (unmoved h.mark) un) (leb-false 4000000000 σ.last_tag room))))
 
     copy_ok : (tag : ℕ) (new : ℕ → Bool)
-        → ((h : HotRow K R) → first (row_chosen tag) σ.hot ≡ Some h → Grown σ.admits new (number h.key))
+        → ((h : HotRow K R) → first (row_chosen tag) σ.hot ≡ Some h → HasMore (number h.key) σ.admits new)
         → Keeps (call.Copy tag) (copy_rule number σ.lengths σ tag new)
     copy_ok tag new grown = lent_own (Keeps (call.Copy tag)) _ σ _ _ (go (first (row_chosen tag) σ.hot) refl)
       where
         go : (o : Option (HotRow K R)) → first (row_chosen tag) σ.hot ≡ o → Keeps (call.Copy tag) (copy_row number σ tag new o)
         go None e = w
-        go (Some h) e = let g = grown h e in whole_copy number σ T w new tag h e g.1 g.0
+        go (Some h) e = let g = grown h e in whole_copy number σ T w new tag h e g.0 g.1
 
     settle_ok : (tag : ℕ) → Keeps (call.Settle tag) (settle_rule number σ.lengths σ tag)
     settle_ok tag = lent_own (Keeps (call.Settle tag)) _ σ _ _ (go (first (row_copied tag) σ.hot) refl)

@@ -8,16 +8,12 @@ use Rattle.rules.specs.Stores.{Store, Lengths}
 use Rattle.rules.specs.Outcomes.{Told, Outcome}
 use Rattle.rules.specs.Opening.{in_range, opened}
 use Rattle.rules.specs.Selling.{begin_rule, read_rule, put_rule, drop_rule, commit_rule, abandon_rule}
-use Rattle.rules.specs.Moving.{choose_rule, copy_rule, settle_rule, give_up_rule, sweep_rule, collect_rule, row_chosen}
+use Rattle.rules.specs.Moving.{choose_rule, copy_rule, settle_rule, give_up_rule, sweep_rule, collect_rule, row_chosen, HasMore}
 
 -- a call and its answer
 pub record Event (K R : Type 0) : Type 0 where
   pub call : Call K R
   pub answer : Told R
-
--- a filter's set after k was added: it has k and all that it had
-abbrev pub Grown : (ℕ → Bool) → (ℕ → Bool) → ℕ → Type 0
-Grown old new k = ((n : ℕ) → old n ≡ true → new n ≡ true) × (new k ≡ true)
 
 abbrev pub answering : {K R : Type 0} → Told R → Store K R → Outcome K R
 answering a τ = record { answer = a; after = τ }
@@ -35,7 +31,7 @@ module _ {K R : Type 0} (number : K → ℕ) where
   Step σ (call.Choose k) a τ = choose_rule number σ.lengths σ k ≡ answering a τ
   Step σ (call.Copy t) a τ =
       (new : ℕ → Bool)
-      × ((h : HotRow K R) → first (row_chosen t) σ.hot ≡ Some h → Grown σ.admits new (number h.key))
+      × ((h : HotRow K R) → first (row_chosen t) σ.hot ≡ Some h → HasMore (number h.key) σ.admits new)
       × (copy_rule number σ.lengths σ t new ≡ answering a τ)
   Step σ (call.Settle t) a τ = settle_rule number σ.lengths σ t ≡ answering a τ
   Step σ (call.GiveUp t) a τ = give_up_rule σ.lengths σ t ≡ answering a τ

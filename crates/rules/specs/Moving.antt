@@ -1,5 +1,5 @@
 -- The move calls, sweep and collect, one definition each.
-use Rattle.std.specs.Prelude.{ℕ, ◌+◌, Bool, true, false, cond, not, ◌&&◌, [], ◌++◌, Some, None, Ok, Err, Option, Result, ◌==◌, nat_le}
+use Rattle.std.specs.Prelude.{◌≡◌, ℕ, ◌+◌, Bool, true, false, cond, not, ◌&&◌, [], ◌++◌, Some, None, Ok, Err, Option, Result, ◌==◌, nat_le}
 use Rattle.slots.specs.Lists.{any, first, at_first, kept, one}
 use Rattle.cold.specs.Cold.{put_answer, put_after, removed_after}
 use Rattle.cold.specs.declared.store.ColdRefusal.{ColdRefusal}
@@ -84,6 +84,10 @@ module _ {K R : Type 0} (number : K → ℕ) where
   choose_rule lent σ key = if_lent Mover lent σ σ (choose_row σ key (first (movable (number key)) σ.hot))
 
 -- Copy. The filter's set after the number was added is `admits`: any set with that number and all that there was.
+
+-- a set with a number and all that there was
+abbrev pub HasMore : ℕ → (ℕ → Bool) → (ℕ → Bool) → Type 0
+HasMore n old new = (new n ≡ true) × ((m : ℕ) → old m ≡ true → new m ≡ true)
 
 module _ {K R : Type 0} (number : K → ℕ) where
   -- as the cold store answers the put

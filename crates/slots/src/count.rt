@@ -42,7 +42,8 @@ pub fn retain<T: Copy, P: Fn(&T) -> bool>(slots: &mut [T], used: usize, test: P)
     let mut n = 0;
     for i in 0..end {
         let x = slots[i];
-        if test(&x) {
+        let keep = test(&x);
+        if keep {
             slots[n] = x;
             n += 1;
         }
