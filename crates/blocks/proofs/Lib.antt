@@ -1,3 +1,5 @@
-pub mod Look
-pub mod Places
+pub mod FirstPlace
+pub mod Kept
+pub mod Least
+pub mod Own
 pub mod Tidy

@@ -47,10 +47,10 @@ filled_kept limit at n t xs row h l m o =
     ∙ all_set is_tidy (cut 32 limit xs) at (entry_bytes n t row) o (filled_tidy n t row)
 
 pub cleared_kept : (limit at : ℕ) (xs : List ℕ) → at < limit → all is_tidy (cut 32 limit xs) ≡ true
-    → all is_tidy (cut 32 limit (set xs (at * 32 + 12) 0)) ≡ true
+    → all is_tidy (cut 32 limit (set xs (32 * at + 12) 0)) ≡ true
 cleared_kept limit at xs h o =
     let n = length_cut 32 limit xs in
-    ap (all is_tidy) (cut_put 32 limit at 12 (at * 32 + 12) xs 0 h (omega arith) (omega arith))
+    ap (all is_tidy) (cut_put 32 limit at 12 (32 * at + 12) xs 0 h (omega arith) refl)
     ∙ all_set is_tidy (cut 32 limit xs) at (set (part (32 * at) 32 xs) 12 0) o
     (cleared_tidy (part (32 * at) 32 xs) (ap is_tidy (sym (cut_at 32 limit at xs [] h)) ∙ all_at is_tidy (cut 32 limit xs) at [] (omega arith) o))
 

@@ -1,7 +1,7 @@
 -- The bytes of a block store.
-use Rattle.std.specs.Prelude.{ℕ, zero, suc, ◌+◌, ◌*◌, Bool, true, cond, not, ◌&&◌, leb, List, [], ◌∷◌, ◌++◌, length, take, drop, Ok, Err, Result, ◌==◌, nat_le, nat_lt, slice_index, slice_index_or, slice_set}
+use Rattle.std.specs.Prelude.{ℕ, zero, suc, ◌+◌, ◌*◌, Bool, cond, not, ◌&&◌, List, [], ◌∷◌, ◌++◌, length, take, drop, Ok, Err, Result, ◌==◌, nat_le, nat_lt, slice_index, slice_set}
+use Rattle.std.specs.List.{prefix_len}
 use Rattle.keys.specs.Bytes.{low_bytes, from_low}
-use Rattle.cold.specs.Lists.{nth, front}
 use Rattle.cold.specs.declared.store.ColdRefusal.{ColdRefusal}
 use Rattle.cold.specs.declared.store.ColdRefusal.TheVariants.{There, Full}
 
@@ -49,10 +49,10 @@ is_tidy b = nat_le (byte 12 b) 1 && (byte 13 b == 0 && (byte 14 b == 0 && byte 1
 
 -- the place of a key number and tag, and the first free place; the limit if there is none
 abbrev pub seat_of : ℕ → List ℕ → ℕ → ℕ → ℕ
-seat_of limit xs n t = front (λ b. not (has_key n t b)) (cut 32 limit xs)
+seat_of limit xs n t = prefix_len (λ b. not (has_key n t b)) (cut 32 limit xs)
 
 abbrev pub free_of : ℕ → List ℕ → ℕ
-free_of limit xs = front is_used (cut 32 limit xs)
+free_of limit xs = prefix_len is_used (cut 32 limit xs)
 
 -- what put answers, and what put and remove leave of the bytes
 abbrev pub bytes_answer : ℕ → List ℕ → ℕ → ℕ → Result (Unit {0}) ColdRefusal
@@ -64,11 +64,3 @@ put_bytes limit xs n t row =
 
 abbrev pub removed_bytes : ℕ → List ℕ → ℕ → ℕ → List ℕ
 removed_bytes limit xs n t = cond (nat_lt (seat_of limit xs n t) limit) (slice_set xs (32 * seat_of limit xs n t + 12) 0) xs
-
--- the tag of block i is at most that of block `at`, if there is one
-abbrev pub no_later : List (List ℕ) → ℕ → ℕ → Bool
-no_later bs i at = nth bs at true (λ b. leb (tag_of (slice_index_or bs i [])) (tag_of b))
-
--- the one of two places that answers a find better
-abbrev pub better : List (List ℕ) → ℕ → ℕ → ℕ → ℕ → ℕ
-better bs i at n t = cond (has_own n t (slice_index_or bs i []) && no_later bs i at) i at

@@ -6,17 +6,17 @@ use Rattle.std.proofs.lemmas.Bool.{cond-true, cond-false, not-false, cases_lt, l
 use Rattle.std.proofs.lemmas.List.{append_assoc, append-nil, take_at, drop_at, get_or_at, length-map, map-set, get_or-set_same, length-take, length-take-le, length-drop, get_or_append_left, get_or-append_right, get_or-take, get_or-drop}
 use Rattle.keys.specs.Bytes.{low_bytes, from_low}
 use Rattle.keys.specs.Low.{length_low, from_low_back, low_step, length_pushed}
-use Rattle.cold.specs.Lists.{front}
+use Rattle.std.specs.List.{prefix_len}
+use Rattle.std.proofs.lemmas.List.Sums.{prefix_len-le-length, prefix_len_stops}
 use Rattle.cold.specs.Cold.{Entry, is_there, removed_after, put_answer, put_after, in_order}
 use Rattle.cold.specs.declared.store.ColdRefusal.{ColdRefusal}
 use Rattle.cold.specs.declared.store.ColdRefusal.TheVariants.{There, Full}
-use Rattle.cold.proofs.Lists.{front_at}
 use Rattle.cold.proofs.Meaning.{put_there, put_full, put_done}
 use Rattle.cold.proofs.PutIn.{removed_none}
 use Rattle.blocks.specs.Blocks.{entry_bytes, written, seat_of, free_of, bytes_answer, put_bytes, removed_bytes, part, byte, cut, is_used}
 use Rattle.blocks.specs.Blocks.{number_of, tag_of, has_key}
 use Rattle.blocks.specs.Cells.{cell, cells, gathered, entries_of}
-use Rattle.blocks.specs.Cut.{length_cut, cut_written, cut_put, front_le, front_over, cut_replicate}
+use Rattle.blocks.specs.Cut.{length_cut, cut_written, cut_put, prefix_over, cut_replicate}
 use Rattle.blocks.specs.Lent.{length_entry}
 use Rattle.blocks.specs.Gather.{full, has, gathered_set, gathered_full, gathered_free, gathered_lacks, free_at, removes_cell}
 
@@ -87,34 +87,34 @@ module _ {R : Type 0} (unpacked : List ℕ → R) where
     pub length_cells : length cs ≡ limit
     length_cells = length-map (cut 32 limit xs) (cell unpacked) ∙ length_cut 32 limit xs
 
-    module _ (n t at : ℕ) (is : at ≡ front (λ b. not (has_key n t b)) (cut 32 limit xs)) where
-      seat_is : at ≡ front (λ c. not (has n t c)) cs
-      seat_is = is ∙ sym (front_over (cell unpacked) (λ c. not (has n t c)) (λ b. not (has_key n t b)) (cut 32 limit xs) (has_cell n t))
+    module _ (n t at : ℕ) (is : at ≡ prefix_len (λ b. not (has_key n t b)) (cut 32 limit xs)) where
+      seat_is : at ≡ prefix_len (λ c. not (has n t c)) cs
+      seat_is = is ∙ sym (prefix_over (cell unpacked) (λ c. not (has n t c)) (λ b. not (has_key n t b)) (cut 32 limit xs) (has_cell n t))
 
       pub lacks : limit ≤ at → is_there n t es ≡ false
-      lacks h = let l = length_cells in let f = front_le (λ c. not (has n t c)) cs in let s = seat_is in gathered_lacks n t cs (omega arith)
+      lacks h = let l = length_cells in let f = prefix_len-le-length (λ c. not (has n t c)) cs in let s = seat_is in gathered_lacks n t cs (omega arith)
 
       -- the place that has the key and tag, and what is left if it is cleared
       pub seated : at < limit → in_order es ≡ true → (is_there n t es ≡ true) × (gathered (slice_set cs at None) ≡ removed_after es n t)
       seated h o =
           let l = length_cells in
           let s = seat_is in
-          let f = front_at (λ c. not (has n t c)) cs None (omega arith) in
+          let f = prefix_len_stops (λ c. not (has n t c)) cs None (omega arith) in
           removes_cell n t cs at o (not-false (has n t (slice_index_or cs at None)) (ap (λ k. not (has n t (slice_index_or cs k None))) s ∙ f))
 
-    module _ (at : ℕ) (is : at ≡ front is_used (cut 32 limit xs)) where
-      free_is : at ≡ front full cs
-      free_is = is ∙ sym (front_over (cell unpacked) full is_used (cut 32 limit xs) full_cell)
+    module _ (at : ℕ) (is : at ≡ prefix_len is_used (cut 32 limit xs)) where
+      free_is : at ≡ prefix_len full cs
+      free_is = is ∙ sym (prefix_over (cell unpacked) full is_used (cut 32 limit xs) full_cell)
 
       pub none_free : limit ≤ at → length es ≡ limit
-      none_free h = let l = length_cells in let f = front_le full cs in let s = free_is in gathered_full cs (omega arith) ∙ l
+      none_free h = let l = length_cells in let f = prefix_len-le-length full cs in let s = free_is in gathered_full cs (omega arith) ∙ l
 
       pub some_free : at < limit → (length es < limit) × (slice_index_or cs at None ≡ None)
       some_free h =
           let l = length_cells in
           let s = free_is in
           let f = gathered_free cs (omega arith) in
-          (omega arith, free_at (slice_index_or cs at None) (ap (λ k. full (slice_index_or cs k None)) s ∙ front_at full cs None (omega arith)))
+          (omega arith, free_at (slice_index_or cs at None) (ap (λ k. full (slice_index_or cs k None)) s ∙ prefix_len_stops full cs None (omega arith)))
 
     -- one block is filled
     pub cells_filled : (at n t : ℕ) (row : List ℕ) (r : R) → at < limit → 32 * limit ≤ length xs → n < 2 ^ 64 → t < 2 ^ 32 → length row ≡ 16

@@ -1,19 +1,17 @@
 -- The entries of cells, when one cell is filled or cleared.
-use Rattle.std.specs.Prelude.{◌≡◌, ℕ, zero, suc, ◌+◌, ◌<◌, ◌≤◌, Bool, true, false, cond, not, ◌||◌, List, [], ◌∷◌, length, drop, Some, None, Option, ◌==◌, slice_index_or, slice_set}
+use Rattle.std.specs.Prelude.{◌≡◌, ℕ, zero, suc, ◌+◌, ◌<◌, ◌≤◌, Bool, true, false, cond, not, ◌||◌, List, [], ◌∷◌, length, Some, None, Option, ◌==◌, slice_index_or, slice_set}
 use Rattle.std.proofs.Math.Path.{refl, sym, ap}
 use Rattle.std.proofs.Common.{◌∙◌}
 use native.Mathlib.Omega.{arith}
 use Rattle.std.proofs.lemmas.Bool.{and_parts, or_parts, or_left, eqb-true}
-use Rattle.std.proofs.lemmas.List.{drop_more}
-use Rattle.cold.specs.Lists.{any, front}
-use Rattle.cold.specs.Cold.{Entry, in_order, is_of, is_there, put_in, removed_after, told}
-use Rattle.cold.specs.declared.store.Found.{Found}
-use Rattle.cold.proofs.Places.{nearer, found_by, found_put_in}
+use Rattle.std.specs.List.{prefix_len}
+use Rattle.cold.specs.Lists.{any}
+use Rattle.cold.specs.Cold.{Entry, in_order, is_of, is_there, put_in, removed_after}
 use Rattle.cold.proofs.PutIn.{put_in_comm, any_put_in, order_back, removed_put_in, length_put_in}
-use Rattle.blocks.specs.Cells.{with_cell, gathered}
+use Rattle.blocks.specs.Cells.{gathered}
 
 module _ {R : Type 0} where
-  -- a cell has an entry, the entry of a key number and tag, and what a find tells of it
+  -- a cell has an entry, and the entry of a key number and tag
   abbrev pub full : Option (Entry R) → Bool
   full None = false
   full (Some e) = true
@@ -21,10 +19,6 @@ module _ {R : Type 0} where
   abbrev pub has : ℕ → ℕ → Option (Entry R) → Bool
   has n t None = false
   has n t (Some e) = is_of n t e
-
-  abbrev pub told_cell : Option (Entry R) → Option (Found R)
-  told_cell None = None
-  told_cell (Some e) = Some (told e)
 
   there_put_in : (n t : ℕ) (e : Entry R) (es : List (Entry R)) → is_there n t (put_in e es) ≡ (is_of n t e || is_there n t es)
   there_put_in n t e es = any_put_in (is_of n t) e es
@@ -59,8 +53,8 @@ module _ {R : Type 0} where
       ap (put_in x) r ∙ sym (put_in_comm e x (gathered (slice_set cs i None)) a.0)
 
   -- all cells used: as many entries as cells
-  pub gathered_full : (cs : List (Option (Entry R))) → front full cs ≡ length cs → length (gathered cs) ≡ length cs
-  unfolding gathered front
+  pub gathered_full : (cs : List (Option (Entry R))) → prefix_len full cs ≡ length cs → length (gathered cs) ≡ length cs
+  unfolding gathered
   gathered_full [] h = refl
   gathered_full (None ∷ cs) h = absurd (let z : ⊥ = omega arith in z)
   gathered_full (Some x ∷ cs) h = length_put_in x (gathered cs) ∙ ap suc (gathered_full cs (omega arith))
@@ -71,21 +65,21 @@ module _ {R : Type 0} where
   gathered_few (None ∷ cs) = omega (arith, gathered_few cs)
   gathered_few (Some x ∷ cs) = omega (arith, gathered_few cs, length_put_in x (gathered cs))
 
-  pub gathered_free : (cs : List (Option (Entry R))) → front full cs < length cs → length (gathered cs) < length cs
-  unfolding gathered front
+  pub gathered_free : (cs : List (Option (Entry R))) → prefix_len full cs < length cs → length (gathered cs) < length cs
+  unfolding gathered
   gathered_free [] h = absurd (let z : ⊥ = omega arith in z)
   gathered_free (None ∷ cs) h = omega (arith, gathered_few cs)
   gathered_free (Some x ∷ cs) h = omega (arith, gathered_free cs (omega arith), length_put_in x (gathered cs))
 
   -- no cell has the key and tag
-  pub gathered_lacks : (n t : ℕ) (cs : List (Option (Entry R))) → front (λ c. not (has n t c)) cs ≡ length cs → is_there n t (gathered cs) ≡ false
-  unfolding gathered front any
+  pub gathered_lacks : (n t : ℕ) (cs : List (Option (Entry R))) → prefix_len (λ c. not (has n t c)) cs ≡ length cs → is_there n t (gathered cs) ≡ false
+  unfolding gathered any
   gathered_lacks n t [] h = refl
   gathered_lacks n t (None ∷ cs) h = gathered_lacks n t cs (omega arith)
   gathered_lacks n t (Some x ∷ cs) h = there_put_in n t x (gathered cs) ∙ go (is_of n t x) refl h (gathered_lacks n t cs)
     where
-      go : (b : Bool) → is_of n t x ≡ b → cond (not b) (suc (front (λ c. not (has n t c)) cs)) 0 ≡ suc (length cs)
-          → (front (λ c. not (has n t c)) cs ≡ length cs → is_there n t (gathered cs) ≡ false) → (b || is_there n t (gathered cs)) ≡ false
+      go : (b : Bool) → is_of n t x ≡ b → cond (not b) (1 + prefix_len (λ c. not (has n t c)) cs) 0 ≡ suc (length cs)
+          → (prefix_len (λ c. not (has n t c)) cs ≡ length cs → is_there n t (gathered cs) ≡ false) → (b || is_there n t (gathered cs)) ≡ false
       go true f h i = absurd (let z : ⊥ = omega arith in z)
       go false f h i = i (omega arith)
 
@@ -114,13 +108,3 @@ module _ {R : Type 0} where
         sym (ap (λ es. removed_after es n t) g ∙ removed_put_in n t f.0 (gathered (slice_set cs i None)) f.2
             (there_same n t f.0 (gathered (slice_set cs i None)) f.2 k)),
       )
-
-  -- one more cell, from the end
-  pub found_more : (n t : ℕ) (cs : List (Option (Entry R))) (i : ℕ) → i < length cs
-      → found_by n t (gathered (drop i cs)) ≡ nearer n t (slice_index_or cs i None) (found_by n t (gathered (drop (i + 1) cs)))
-  unfolding gathered
-  found_more n t cs i h = ap (λ ds. found_by n t (gathered ds)) (drop_more cs i None h) ∙ go (slice_index_or cs i None)
-    where
-      go : (c : Option (Entry R)) → found_by n t (with_cell c (gathered (drop (i + 1) cs))) ≡ nearer n t c (found_by n t (gathered (drop (i + 1) cs)))
-      go None = refl
-      go (Some e) = found_put_in n t e (gathered (drop (i + 1) cs))

@@ -1,5 +1,4 @@
-ghost use Rattle.std.specs.Prelude.{◌≡◌, ℕ, ◌*◌, ◌/◌, true, ltb, [], IfOk, ◌≢◌, nat_lt, slice_index};
-ghost use Rattle.cold.specs.Cold.{found, in_order};
+ghost use Rattle.std.specs.Prelude.{◌≡◌, ℕ, ◌*◌, ◌/◌, ltb, [], IfOk, ◌≢◌, nat_lt, slice_index};
 ghost use Rattle.cold.specs.New.{refused_limit};
 ghost use Rattle.blocks.specs.Blocks.{seat_of, free_of, bytes_answer, put_bytes, removed_bytes};
 ghost use Rattle.blocks.specs.Cells.{entries_of};
@@ -22,17 +21,16 @@ impl<K: Key, R: Packed> BlockStore<K, R> {
         if limit > 1048576 {
             return Err(NewStoreError::Limit);
         }
-        match vec![in heap; 0; limit * 32] {
-            Ok(bytes) => Ok(BlockStore {
-                bytes,
-                limit,
-                of: PhantomData,
-            }),
-            Err(_) => Err(NewStoreError::Memory),
-        }
+        let bytes = vec![in heap; 0; limit * 32]?;
+        Ok(BlockStore {
+            bytes,
+            limit,
+            of: PhantomData,
+        })
     }
 
     // Puts an entry in at the first free place, into the 32 bytes of that place and no others.
+    #[tactic(auto, using(crate::specs::Cut::length_cut, crate::proofs::FirstPlace::prefix_turned))]
     pub fn put_entry(&mut self, key: &K, tag: u32, row: &R) -> Result<(), ColdRefusal>
         ensures answer { result
             ≡ bytes_answer self.old.limit self.old.bytes.items (K.Key.number key.now) tag }
@@ -58,6 +56,7 @@ impl<K: Key, R: Packed> BlockStore<K, R> {
     }
 
     // Clears byte 12 of the place of a key and tag and no other byte, and tells whether there is one.
+    #[tactic(auto, using(crate::specs::Cut::length_cut))]
     pub fn remove_entry(&mut self, key: &K, tag: u32) -> bool
         ensures answer { result
             ≡ ltb (seat_of self.old.limit self.old.bytes.items (K.Key.number key.now) tag)

@@ -1,4 +1,4 @@
-ghost use Rattle.std.specs.Prelude.{◌≡◌, ◌≤◌, [], not, filter, position, All, Any, MatchOption};
+ghost use Rattle.std.specs.Prelude.{◌≡◌, ◌≤◌, true, not, position, count_by, All, Any, IfSome, IsNone};
 ghost use Rattle.blocks.specs.Blocks.{cut, is_used, tag_of, has_key, has_own};
 
 use crate::block::{has_key, has_own, tag_of, used};
@@ -18,9 +18,7 @@ impl<K: Key, R: Packed> BlockStore<K, R> {
     pub(crate) fn seat(&self, number: u64, tag: u32) -> Option<usize>
         ensures { result ≡ position (has_key number tag) (cut 32 self.now.limit self.now.bytes.items) }
     {
-        self.blocks()
-            .iter()
-            .position(|b| has_key(b, number, tag))
+        self.blocks().iter().position(|b| has_key(b, number, tag))
     }
 
     // The first free place.
@@ -32,8 +30,10 @@ impl<K: Key, R: Packed> BlockStore<K, R> {
 
     // Of the blocks that hold an entry of a key number with a tag not below `tag`, the one with the smallest tag.
     pub(crate) fn nearest(&self, number: u64, tag: u32) -> Option<&[u8; 32]>
-        ensures { let own = filter (has_own number tag) (cut 32 self.now.limit self.now.bytes.items) in
-            MatchOption result (own ≡ []) (λ b. Any (λ c. c ≡ b.now) own × All (λ c. tag_of b.now ≤ tag_of c) own) }
+        ensures none { IsNone result → count_by (has_own number tag) (cut 32 self.now.limit self.now.bytes.items) ≡ 0 }
+        ensures one { IfSome result (λ b. Any (λ c. c ≡ b.now) (cut 32 self.now.limit self.now.bytes.items)) }
+        ensures own { IfSome result (λ b. has_own number tag b.now ≡ true) }
+        ensures least { IfSome result (λ b. All (λ c. has_own number tag c ≡ true → tag_of b.now ≤ tag_of c) (cut 32 self.now.limit self.now.bytes.items)) }
     {
         self.blocks()
             .iter()

@@ -2,6 +2,7 @@ ghost use Rattle.std.specs.Prelude.{◌≡◌, ◌^◌, ◌<◌, ◌≤◌, leng
 ghost use Rattle.keys.specs.Bytes.{low_bytes, from_low, low};
 
 // Fills `out` with the low bytes of a number, lowest first.
+// Not by `to_le_bytes`: `out` may have any length, and a part beyond eight bytes would need its zeros from elsewhere.
 pub fn write_low(out: &mut [u8], value: u64)
     ensures { out.new ≡ low_bytes (length out.old) value }
 {
@@ -16,14 +17,8 @@ pub fn write_low(out: &mut [u8], value: u64)
 pub fn part<'a>(bytes: &'a [u8], at: usize, n: usize) -> &'a [u8]
     ensures { result.now ≡ take n (drop at bytes.now) }
 {
-    let end = bytes.len();
-    if at >= end {
-        return &bytes[end..];
-    }
-    if n >= end - at {
-        return &bytes[at..];
-    }
-    &bytes[at..at + n]
+    let rest = bytes.get(at..).unwrap_or(&[]);
+    rest.get(..n).unwrap_or(rest)
 }
 
 // The number that at most eight bytes write, lowest first.
@@ -32,13 +27,9 @@ fn read_all(bytes: &[u8]) -> u64
     ensures value { result ≡ from_low bytes.now }
     ensures bound { result < 256 ^ length bytes.now }
 {
-    let mut n = 0u64;
-    let mut i = bytes.len();
-    while i > 0 {
-        i -= 1;
-        n = n * 256 + u64::from(bytes[i]);
-    }
-    n
+    let mut eight = [0; 8];
+    eight[..bytes.len()].copy_from_slice(bytes);
+    u64::from_le_bytes(eight)
 }
 
 // The number that the first eight bytes write, lowest first; bytes that are missing count as zero.
@@ -49,7 +40,7 @@ pub fn read_low(bytes: &[u8]) -> u64
     read_all(part(bytes, 0, 8))
 }
 
-// The number of n bytes from a place on.
+// The number of n bytes from a place on, where bytes that are missing count as zero.
 pub(crate) fn low_at(bytes: &[u8], at: usize, n: usize) -> u64
     requires { n ≤ 8 }
     ensures value { result ≡ low n (drop at bytes.now) }

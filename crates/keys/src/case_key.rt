@@ -5,7 +5,7 @@ ghost use Rattle.keys.specs.CaseNumber.{case_fits, case_parts_same};
 use crate::key::{Key, OrderedKey};
 
 // The key of a help case: whose it is, and which of the seller's cases. It means seller × 65,536 + serial.
-#[derive(Clone, Copy)]
+#[derive(Clone, Copy, Debug, PartialEq, Eq)]
 pub struct CaseKey {
     pub seller: u32,
     pub serial: u16,
@@ -27,8 +27,4 @@ impl Key for CaseKey {
     }
 }
 
-impl OrderedKey for CaseKey {
-    fn is_below(&self, other: &Self) -> bool {
-        self.number() < other.number()
-    }
-}
+impl OrderedKey for CaseKey {}

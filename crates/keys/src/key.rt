@@ -18,5 +18,8 @@ pub trait Key: Copy {
 pub trait OrderedKey: Key {
     // Whether this key's number is smaller than the other's.
     fn is_below(&self, other: &Self) -> bool
-        ensures { result ≡ nat_lt (Self.Key.number self.now) (Self.Key.number other.now) };
+        ensures { result ≡ nat_lt (Self.Key.number self.now) (Self.Key.number other.now) }
+    {
+        self.number() < other.number()
+    }
 }

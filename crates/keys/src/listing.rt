@@ -5,7 +5,7 @@ ghost use Rattle.keys.specs.Ext.{same_record};
 use crate::key::{Key, OrderedKey};
 
 // The number of a listing of tickets. It means itself.
-#[derive(Clone, Copy)]
+#[derive(Clone, Copy, Debug, PartialEq, Eq)]
 pub struct Listing {
     pub id: u64,
     ghost fits: { id < 2 ^ 64 },
@@ -23,8 +23,4 @@ impl Key for Listing {
     }
 }
 
-impl OrderedKey for Listing {
-    fn is_below(&self, other: &Self) -> bool {
-        self.number() < other.number()
-    }
-}
+impl OrderedKey for Listing {}

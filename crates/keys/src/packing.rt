@@ -1,4 +1,4 @@
-ghost use Rattle.std.specs.Prelude.{◌≡◌, ℕ, List, ◌++◌, length, drop, ◌==◌, slice_index};
+ghost use Rattle.std.specs.Prelude.{◌≡◌, ℕ, List, ◌++◌, length, drop, ◌==◌};
 ghost use Rattle.std.proofs.Common.{◌∙◌};
 ghost use Rattle.std.proofs.Math.Path.{ap, refl};
 ghost use Rattle.keys.specs.Packing.{packed_listing, unpacked_listing, packed_case, unpacked_case, word, case_parts, laid};
@@ -18,6 +18,7 @@ pub trait Packed: Copy {
     ghost unpacked: { List ℕ → Self };
 
     // Writes the row into 16 lent bytes. Another number of bytes is left as it was, and the answer is false.
+    // Not a `Result`: there is one way to fail, so an error would say no more.
     fn pack(&self, out: &mut [u8]) -> bool
         ensures answer { result ≡ (length out.old == 16) }
         ensures after { out.new ≡ laid (packed self.now) out.old };
@@ -67,6 +68,7 @@ impl Packed for ListingRow {
 }
 
 // The kind byte of a case row and the number beside it.
+// Not by discriminants: they would give the kind alone, and the number would need a match of its own.
 fn case_parts(row: &CaseRow) -> (u8, u32)
     ensures { result ≡ case_parts row.now }
 {
@@ -75,16 +77,6 @@ fn case_parts(row: &CaseRow) -> (u8, u32)
         CaseRow::Waiting(day) => (1, day.value),
         CaseRow::Closed(outcome) => (2, outcome.value),
     }
-}
-
-// The kind byte that leads a packed case.
-fn kind_byte(bytes: &[u8]) -> u8
-    ensures { result ≡ slice_index bytes.now 0 }
-{
-    if bytes.len() == 0 {
-        return 0;
-    }
-    bytes[0]
 }
 
 // The number after the kind byte.
@@ -121,9 +113,10 @@ impl Packed for CaseRow {
     }
 
     fn unpack(bytes: &[u8]) -> Self {
-        match kind_byte(bytes) {
-            1 => CaseRow::Waiting(read_word(bytes)),
-            2 => CaseRow::Closed(read_word(bytes)),
+        // Not by `TryFrom`: other kind bytes read as opened, so its error could not come about.
+        match bytes.first() {
+            Some(1) => CaseRow::Waiting(read_word(bytes)),
+            Some(2) => CaseRow::Closed(read_word(bytes)),
             _ => CaseRow::Opened,
         }
     }

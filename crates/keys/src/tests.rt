@@ -19,10 +19,7 @@ fn listing_bytes(rt: HostRuntime) {
             4, 3, 2, 1, 0xd0, 0xc0, 0xb0, 0xa0, 0x22, 0x11, 0, 0, 0, 0, 0, 0,
         ]
     );
-    let back = <ListingRow as Packed>::unpack(&out);
-    assert_eq!(rt; back.price, 0x01020304);
-    assert_eq!(rt; back.seller, 0xa0b0c0d0);
-    assert_eq!(rt; back.seats, 0x1122);
+    assert_eq!(rt; ListingRow::unpack(&out), row);
 }
 
 #[test]
@@ -71,38 +68,27 @@ fn case_bytes(rt: HostRuntime) {
     );
 }
 
-// The kind and the number of a case row.
-fn told(row: CaseRow) -> (u8, u32) {
-    match row {
-        CaseRow::Opened => (0, 0),
-        CaseRow::Waiting(day) => (1, day.value),
-        CaseRow::Closed(outcome) => (2, outcome.value),
-    }
-}
-
 #[test]
 fn case_kinds(rt: HostRuntime) {
     assert_eq!(rt;
-        told(<CaseRow as Packed>::unpack(&[0, 5, 0, 0, 0, 0, 0, 0, 0, 0, 0, 0, 0, 0, 0, 0])),
-        (0, 0)
+        CaseRow::unpack(&[0, 5, 0, 0, 0, 0, 0, 0, 0, 0, 0, 0, 0, 0, 0, 0]),
+        CaseRow::Opened
     );
     assert_eq!(rt;
-        told(<CaseRow as Packed>::unpack(&[1, 5, 1, 0, 0, 0, 0, 0, 0, 0, 0, 0, 0, 0, 0, 0])),
-        (1, 261)
+        CaseRow::unpack(&[1, 5, 1, 0, 0, 0, 0, 0, 0, 0, 0, 0, 0, 0, 0, 0]),
+        CaseRow::Waiting(Word32 { value: 261 })
     );
     assert_eq!(rt;
-        told(<CaseRow as Packed>::unpack(&[
-            2, 255, 255, 255, 255, 9, 9, 9, 9, 9, 9, 9, 9, 9, 9, 9
-        ])),
-        (2, 4294967295)
+        CaseRow::unpack(&[2, 255, 255, 255, 255, 9, 9, 9, 9, 9, 9, 9, 9, 9, 9, 9]),
+        CaseRow::Closed(Word32 { value: 4294967295 })
     );
     assert_eq!(rt;
-        told(<CaseRow as Packed>::unpack(&[3, 5, 0, 0, 0, 0, 0, 0, 0, 0, 0, 0, 0, 0, 0, 0])),
-        (0, 0)
+        CaseRow::unpack(&[3, 5, 0, 0, 0, 0, 0, 0, 0, 0, 0, 0, 0, 0, 0, 0]),
+        CaseRow::Opened
     );
     assert_eq!(rt;
-        told(<CaseRow as Packed>::unpack(&[255, 5, 0, 0, 0, 0, 0, 0, 0, 0, 0, 0, 0, 0, 0, 0])),
-        (0, 0)
+        CaseRow::unpack(&[255, 5, 0, 0, 0, 0, 0, 0, 0, 0, 0, 0, 0, 0, 0, 0]),
+        CaseRow::Opened
     );
 }
 
