@@ -1,22 +1,15 @@
 -- What the calls on moves return: as an answer, and what they leave in the caller's hand.
-use Rattle.std.specs.Prelude.{◌≡◌, ℕ, Ok, Err, Result, ◌≢◌}
+use Rattle.std.specs.Prelude.{◌≡◌, Ok, Err, Result, ◌≢◌}
 use Rattle.rules.specs.declared.answers.Refusal.{Refusal}
 use Rattle.rules.specs.declared.answers.Refusal.TheVariants.{MoveOver}
 use Rattle.rules.specs.declared.answers.Answer.TheVariants as answer
 use Rattle.rules.specs.Outcomes.{Told}
-use Rattle.mover.specs.declared.moves.Chosen.{Chosen}
 use Rattle.mover.specs.declared.moves.Move.{Move}
-use Rattle.mover.specs.declared.moves.Move.TheVariants as move
 use Rattle.mover.specs.declared.moves.Stopped.{Stopped}
 use Rattle.mover.specs.declared.moves.Stopped.TheVariants.{Over, Kept}
 
--- the tag of a move, however far it has come
-abbrev pub tag_of : Move → ℕ
-tag_of (move.Chosen m) = m.tag
-tag_of (move.Copied m) = m.tag
-
 module _ {R : Type 0} where
-  abbrev pub told_chosen : Result Chosen Refusal → Told R
+  abbrev pub told_chosen : {S : Type 0} → Result (Move S) Refusal → Told R
   told_chosen (Ok m) = Ok (answer.Tag m.tag)
   told_chosen (Err e) = Err e
 

@@ -4,7 +4,7 @@ ghost use Rattle.rules.specs.Stores.{store, lent};
 ghost use Rattle.rules.specs.Moving.{choose_rule};
 ghost use Rattle.mover.specs.Hands.{told_chosen};
 
-use crate::moves::Chosen;
+use crate::moves::{Chosen, Move};
 use keys::key::Key;
 use marks::rows::is_movable;
 use rules::answers::{Refusal, Side};
@@ -13,6 +13,7 @@ use rules::tables::{HotRow, Kind, Line, MoveMark, Notice};
 use slots::change::edit_at;
 use slots::count::append;
 use slots::search::find_first;
+use std::marker::PhantomData;
 
 // The last tag that a move can have.
 const LAST_TAG: u32 = 4_000_000_000;
@@ -24,7 +25,7 @@ pub fn choose<K: Key, R: Copy>(
     memo: &mut [Notice<K>],
     ledger: &[Line<K>],
     key: K,
-) -> Result<Chosen, Refusal>
+) -> Result<Move<Chosen>, Refusal>
     ensures answer { (cold : List (Entry R)) (limit : ℕ) (admits : ℕ → Bool) → told_chosen result
         ≡ (choose_rule K.Key.number (lent hot.old memo.old ledger.now)
         (store sheet.old hot.old memo.old ledger.now cold limit admits) key).answer }
@@ -58,5 +59,8 @@ pub fn choose<K: Key, R: Copy>(
     };
     sheet.memo_used = append(memo, sheet.memo_used, pending);
     sheet.last_tag = tag;
-    Ok(Chosen { tag })
+    Ok(Move {
+        tag,
+        stage: PhantomData,
+    })
 }

@@ -5,7 +5,7 @@ ghost use Rattle.rules.specs.Moving.{copy_rule};
 ghost use Rattle.mover.specs.Hands.{told_moved, LeftBy};
 ghost use Rattle.mover.specs.Grown.{HasMore, Grown};
 
-use crate::moves::{Chosen, Copied, Stopped};
+use crate::moves::{Chosen, Copied, Move, Stopped};
 use cold::store::{ColdRefusal, ColdStore};
 use filter::Filter;
 use keys::key::Key;
@@ -14,6 +14,7 @@ use rules::sheet::Sheet;
 use rules::tables::{HotRow, Line, MoveMark, Notice};
 use slots::change::edit_at;
 use slots::search::find_first;
+use std::marker::PhantomData;
 
 // Puts a row into the cold store. The filter has its key first, so that it admits every key that the store has.
 fn put_below<K: Key, R: Copy, C: ColdStore<K, R>, F: Filter>(
@@ -44,8 +45,8 @@ pub fn copy<K: Key, R: Copy, C: ColdStore<K, R>, F: Filter>(
     ledger: &[Line<K>],
     cold: &mut C,
     filter: &mut F,
-    moving: Chosen,
-) -> Result<Copied, Stopped<Chosen>>
+    moving: Move<Chosen>,
+) -> Result<Move<Copied>, Stopped<Move<Chosen>>>
     ensures answer { told_moved result
         ≡ (copy_rule K.Key.number (lent hot.old memo.now ledger.now)
         (store sheet.now hot.old memo.now ledger.now (C.ColdStore.entries cold.old)
@@ -72,13 +73,16 @@ pub fn copy<K: Key, R: Copy, C: ColdStore<K, R>, F: Filter>(
         |row| row.mark == MoveMark::Chosen(moving.tag),
     );
     let Some(hit) = found else {
-        let Chosen { tag: _ } = moving;
+        let Move { tag: _, stage: _ } = moving;
         return Err(Stopped::Over(Refusal::MoveOver));
     };
     if let Err(why) = put_below(cold, filter, &hit.it, moving.tag) {
         return Err(Stopped::Kept(moving, Refusal::Cold(why)));
     }
-    let Chosen { tag } = moving;
+    let Move { tag, stage: _ } = moving;
     edit_at(hot, hit.at, |row| row.mark = MoveMark::Copied(tag));
-    Ok(Copied { tag })
+    Ok(Move {
+        tag,
+        stage: PhantomData,
+    })
 }

@@ -4,7 +4,7 @@ ghost use Rattle.rules.specs.Stores.{store, lent};
 ghost use Rattle.rules.specs.Moving.{settle_rule};
 ghost use Rattle.mover.specs.Hands.{told_moved, LeftBy};
 
-use crate::moves::{Copied, Stopped};
+use crate::moves::{Copied, Move, Stopped};
 use keys::key::Key;
 use marks::notices::{is_for, settle_notice};
 use rules::answers::{Refusal, Side};
@@ -20,8 +20,8 @@ pub fn settle<K: Key, R: Copy>(
     hot: &mut [HotRow<K, R>],
     memo: &mut [Notice<K>],
     ledger: &[Line<K>],
-    moving: Copied,
-) -> Result<(), Stopped<Copied>>
+    moving: Move<Copied>,
+) -> Result<(), Stopped<Move<Copied>>>
     ensures answer { (cold : List (Entry R)) (limit : ℕ) (admits : ℕ → Bool) → told_moved result
         ≡ (settle_rule K.Key.number (lent hot.old memo.old ledger.now)
         (store sheet.old hot.old memo.old ledger.now cold limit admits) moving.tag).answer }
@@ -34,7 +34,7 @@ pub fn settle<K: Key, R: Copy>(
     if !sheet.is_lent(hot, memo, ledger) {
         return Err(Stopped::Kept(moving, Refusal::OutOfRange(Side::Mover)));
     }
-    let Copied { tag } = moving;
+    let Move { tag, stage: _ } = moving;
     let found = find_first(hot, sheet.hot_used, |row| row.mark == MoveMark::Copied(tag));
     let Some(hit) = found else {
         return Err(Stopped::Over(Refusal::MoveOver));

@@ -3,12 +3,11 @@ use Rattle.slots.specs.Lists.{one}
 use Rattle.rules.specs.declared.tables.MoveMark.TheVariants.{Unmoved}
 use Rattle.rules.specs.Moving.{row_bears, with_mark}
 use Rattle.mover.proofs.Parts.{none_edited}
-use Rattle.mover.specs.Hands.{tag_of}
 use Rattle.mover.proofs.give_up.give_up.Goals as goal
 
 pub returns-then-not-edit_first : goal.returns-then-not-edit_first
 returns-then-not-edit_first g c =
-    let tag = tag_of c.args.moving in
+    let tag = c.args.moving.tag in
     let e = sym c.if-not-is_lent.ensures in
     let found = c.if-not-edit_first.ensures.answer (row_bears tag) (λ x r k. search rules) in
     let rows = c.edit_first.ensures.list (row_bears tag) (with_mark Unmoved) (λ x r k. search rules) (λ x y k. search rules)
@@ -21,7 +20,7 @@ returns-then-not-edit_first g c =
 
 pub returns : goal.returns
 returns g c =
-    let tag = tag_of c.args.moving in
+    let tag = c.args.moving.tag in
     let e = sym c.if-not-is_lent.ensures in
     let found = c.if-not-edit_first.ensures.answer (row_bears tag) (λ x r k. search rules) in
     let rows = c.edit_first.ensures.list (row_bears tag) (with_mark Unmoved) (λ x r k. search rules) (λ x y k. search rules) in
