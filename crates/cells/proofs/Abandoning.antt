@@ -2,7 +2,6 @@
 use Rattle.std.proofs.Common.{◌≡◌, ℕ, ◌<◌, ◌≤◌, Bool, true, false, cond, eqb, List, [], ◌++◌, Some, None, Option, sym, refl, ap, ◌∙◌, subst, inl, inr, arith}
 use Rattle.std.proofs.lemmas.Bool.{cases_Bool, or_parts}
 use Rattle.rules.specs.declared.times.Moment.{Moment}
-use Rattle.rules.specs.declared.times.Moment.TheVariants as moment
 use Rattle.rules.specs.declared.tables.HotRow.{HotRow}
 use Rattle.rules.specs.declared.tables.Kind.{Kind}
 use Rattle.rules.specs.declared.tables.Kind.TheVariants.{B}
@@ -19,28 +18,17 @@ use Rattle.slots.specs.Lists.{any, kept, one, each}
 use Rattle.slots.proofs.Folds.{none_all, all_then, all_every, each_append, each_same, each_each}
 use Rattle.slots.proofs.Edits.{head, first_kept}
 use Rattle.versions.specs.History.{History, closes}
-use Rattle.versions.proofs.Undoing.{undo_version, rel_abandon, tidy_abandon}
+use Rattle.versions.proofs.Undoing.{undo_version, end_kept, rel_abandon, tidy_abandon}
 use Rattle.cells.proofs.Horizons.{horizon_low, horizon_close}
 use Rattle.cells.proofs.Maps.{each_cond, each_id, kept_each, kept_unless, each_unless}
-use Rattle.cells.proofs.Cells.{Cell, QuietEnd, mover, hot_version, cold_version, hot_part, cold_part, versions, entry_version, Whole}
+use Rattle.cells.proofs.Cells.{Cell, quiet_unmarked, mover, hot_version, cold_version, hot_part, cold_part, versions, entry_version, Whole}
 use Rattle.cells.proofs.Cells.{c_empty, c_plain, c_idle, c_chosen, c_copied, c_begun, c_ended, c_both, c_emptied}
 use Rattle.cells.proofs.Rising.{quiet_rise}
 use Rattle.cells.proofs.Sessions.{shut, shut_agree, shut_many, shut_early, shut_reads}
 
 reopen_yes : (s : ℕ) (y : Option Moment) → end_marked y s ≡ true → reopen s y ≡ None
 reopen_yes s None h = refl
-reopen_yes s (Some (moment.Stamp n)) h = absurd (let z : ◌≡◌ {A = ℕ} 0 1 = cc in omega arith)
-reopen_yes s (Some (moment.Mark n)) h = rw h
-
-reopen_no : (s : ℕ) (y : Option Moment) → end_marked y s ≡ false → reopen s y ≡ y
-reopen_no s None h = refl
-reopen_no s (Some (moment.Stamp n)) h = refl
-reopen_no s (Some (moment.Mark n)) h = rw h
-
-quiet_unmarked : (h s : ℕ) (y : Option Moment) → QuietEnd h y → end_marked y s ≡ false
-quiet_unmarked h s None q = refl
-quiet_unmarked h s (Some (moment.Stamp n)) q = refl
-quiet_unmarked h s (Some (moment.Mark n)) q = elim q [ ]
+reopen_yes s (Some x) h = rw h
 
 module _ {K R : Type 0} where
   -- by the shape of a cell: the cell after, and the times that its notice then gives its entry
@@ -58,16 +46,16 @@ module _ {K R : Type 0} where
   undo_cell h g s l (c_begun n d p q u x z) = (c_begun n d (rw (p, u)) q u x (rw z), λ r. rw (p, u, q))
   undo_cell h g s l (c_ended n d p q u x z ne) = elim (cases_Bool (end_marked n.end s)) [
     | inl m ↦ (c_plain d (rw (p, m, q)) x (rw z), λ r. rw (p, m, q, reopen_yes s n.end m))
-    | inr m ↦ (c_ended n d (rw (p, m)) q u x (rw z) ne, λ r. rw (p, m, q, reopen_no s n.end m))
+    | inr m ↦ (c_ended n d (rw (p, m)) q u x (rw z) ne, λ r. rw (p, m, q, end_kept s n.end m))
   ]
   undo_cell h g s l (c_both n d p q x z ne) = elim (cases_Bool (end_marked n.end s)) [
     | inl m ↦
         let begun : Notice K = record { key = n.key; tag = n.tag; kind = B; begin = n.begin; end = None } in
         (c_begun begun d (rw (p, m, q)) refl refl x (rw z), λ r. rw (p, m, q, reopen_yes s n.end m))
-    | inr m ↦ (c_both n d (rw (p, m)) q x (rw z) ne, λ r. rw (p, m, q, reopen_no s n.end m))
+    | inr m ↦ (c_both n d (rw (p, m)) q x (rw z) ne, λ r. rw (p, m, q, end_kept s n.end m))
   ]
   undo_cell h g s l (c_emptied n p q u v x z) =
-      let m = quiet_unmarked h s n.end v in
+      let m = quiet_unmarked s h n.end v in
       (c_emptied n (rw (p, m)) q (omega arith) (quiet_rise h g n.end l v) x (rw z), λ r. rw (p, m, q))
 
   unmarked_row : (s : ℕ) (x : HotRow K R) → hot_marked s x ≡ false → undo_row s x ≡ one x
@@ -76,7 +64,7 @@ module _ {K R : Type 0} where
       ap (λ t. cond t [] (one (record { key = x.key; row = x.row; begin = x.begin; end = reopen s x.end; mark = x.mark })))
       q.0
       ∙ ap (λ y. one (record { key = x.key; row = x.row; begin = x.begin; end = y; mark = x.mark }))
-      (reopen_no s x.end q.1)
+      (end_kept s x.end q.1)
 
 -- what is left of a notice has its key and tag
 undone_notice : {K : Type 0} (number : K → ℕ) (s k tag : ℕ) (n : Notice K)

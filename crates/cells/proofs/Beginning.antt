@@ -72,7 +72,7 @@ module _ {K R : Type 0} (number : K → ℕ) where
     no_turn u e = ap T.turn e ∙ closed_turn number (session_at σ.sessions s).reading (T.turn s) (w.agree s) shut
 
     unwritten : (k u : ℕ) (v : Option R) (A : Type 0) → u ≡ s → writes_of T.turn u k ≡ Some v → A
-    unwritten k u v A e p = absurd (let y = no_turn u e in let z : ◌≡◌ {A = ℕ} 0 1 = cc (rw y at p) in omega arith)
+    unwritten k u v A e p = absurd (let y = no_turn u e in cc (rw y at p))
 
     -- the new turn has written nothing
     begin_same : (k : ℕ) → SameAt T.commits T.commits T.turn (begins T s mode).turn k
@@ -136,7 +136,7 @@ module _ {K R : Type 0} (number : K → ℕ) where
         sound = record {
           cells = λ k tag. c_empty refl refl refl;
           unused = λ k tag lt. (refl, refl);
-          known = λ k e. absurd (let z : ◌≡◌ {A = ℕ} 0 1 = cc in omega arith);
+          known = λ k e. absurd cc;
         };
         rel = λ k. rel_unwritten (λ s. refl) (λ t l. refl) (λ s. refl) (λ s. refl) (λ t l. refl) tt;
         tidy = λ k. tidy_unwritten (λ s. refl) tt (horizon_low clock (replicate 64 closed) (early_closed 64 clock));

@@ -1,7 +1,7 @@
 -- What a store is held to. For each pair of a key number and a tag the notices, the cold entries and the hot rows on the
 -- move with that pair are in one of nine shapes, `Cell`. `versions` are the versions of a key that a store gives, and
 -- `Whole` joins the cells, the versions of every key, the sessions and the clock with the history of the run.
-use Rattle.std.proofs.Common.{◌≡◌, ℕ, ◌<◌, ◌≤◌, Bool, true, false, cond, ◌&&◌, eqb, List, [], ◌++◌, length, Some, None, Option}
+use Rattle.std.proofs.Common.{◌≡◌, ℕ, ◌<◌, ◌≤◌, Bool, true, false, cond, ◌&&◌, eqb, List, [], ◌++◌, length, Some, None, Option, refl}
 use Rattle.std.specs.List.{AllByRecursion as All}
 use Rattle.rules.specs.declared.times.Moment.{Moment}
 use Rattle.rules.specs.declared.tables.HotRow.{HotRow}
@@ -15,7 +15,7 @@ use Rattle.cold.specs.Cold.{Entry, is_of}
 use Rattle.rules.specs.Looking.{is_for, notice_for}
 use Rattle.rules.specs.Moving.{bears}
 use Rattle.rules.specs.Stores.{Store, session_at, horizon_of}
-use Rattle.rules.specs.Times.{open_end}
+use Rattle.rules.specs.Times.{end_marked, open_end}
 use Rattle.slots.specs.Lists.{any, kept, one, each, one_if}
 use Rattle.versions.specs.History.{Turn, History}
 use Rattle.versions.proofs.Versions.{Version, Rel, Tidy}
@@ -26,6 +26,11 @@ abbrev pub QuietEnd : ℕ → Option Moment → Type 0
 QuietEnd h None = Unit {0}
 QuietEnd h (Some (moment.Stamp n)) = n ≤ h
 QuietEnd h (Some (moment.Mark s)) = ⊥
+
+pub quiet_unmarked : (s h : ℕ) (y : Option Moment) → QuietEnd h y → end_marked y s ≡ false
+quiet_unmarked s h None quiet = refl
+quiet_unmarked s h (Some (moment.Stamp n)) quiet = refl
+quiet_unmarked s h (Some (moment.Mark n)) quiet = elim quiet [ ]
 
 -- a notice that waits for its row to arrive: N, with the times of an entry that has no notice
 pub record Pending {K : Type 0} (n : Notice K) : Type 0 where

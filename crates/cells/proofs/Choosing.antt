@@ -23,14 +23,13 @@ use Rattle.cells.proofs.Splitting.{Elsewhere, cold_calm}
 
 movable_is : (x : Moment) (y : Option Moment) → (stamped_begin x && open_end y) ≡ true → (i : ℕ) × (x ≡ moment.Stamp i) × (y ≡ None)
 movable_is (moment.Stamp i) None h = (i, refl, refl)
-movable_is (moment.Stamp i) (Some (moment.Stamp n)) h = absurd (let z : ◌≡◌ {A = ℕ} 0 1 = cc in omega arith)
-movable_is (moment.Stamp i) (Some (moment.Mark n)) h = absurd (let z : ◌≡◌ {A = ℕ} 0 1 = cc in omega arith)
-movable_is (moment.Mark m) y h = absurd (let z : ◌≡◌ {A = ℕ} 0 1 = cc in omega arith)
+movable_is (moment.Stamp i) (Some x) h = absurd cc
+movable_is (moment.Mark m) y h = absurd cc
 
 unmoved_is : (m : MoveMark) → unmoved m ≡ true → m ≡ Unmoved
 unmoved_is Unmoved h = refl
-unmoved_is (Chosen t) h = absurd (let z : ◌≡◌ {A = ℕ} 0 1 = cc in omega arith)
-unmoved_is (Copied t) h = absurd (let z : ◌≡◌ {A = ℕ} 0 1 = cc in omega arith)
+unmoved_is (Chosen t) h = absurd cc
+unmoved_is (Copied t) h = absurd cc
 
 module _ {K R : Type 0} (number : K → ℕ) (σ : Store K R) (T : History R) (w : Whole number σ T) (key : K) (h : HotRow K R) where
   module _ (is : first (movable number (number key)) σ.hot ≡ Some h) (free : unmoved h.mark ≡ true) (room : σ.last_tag < 4000000000) where

@@ -1,5 +1,5 @@
 -- A commit with a stamp: the marks of the session become the stamp, on hot rows, on notices and so on every version.
-use Rattle.std.proofs.Common.{◌≡◌, ℕ, ◌+◌, ◌<◌, ◌≤◌, false, cond, eqb, List, [], ◌++◌, map, Some, None, Option, sym, refl, ap, ◌∙◌, arith}
+use Rattle.std.proofs.Common.{◌≡◌, ℕ, ◌+◌, ◌<◌, ◌≤◌, false, cond, eqb, List, [], ◌++◌, map, Some, None, Option, sym, refl, ap, ◌∙◌, arith, option_map}
 use mathlib.Core.List.{map-append}
 use Rattle.rules.specs.declared.times.Moment.{Moment}
 use Rattle.rules.specs.declared.times.Moment.TheVariants as moment
@@ -17,7 +17,7 @@ use Rattle.slots.proofs.Folds.{all_every, each_same, each_map}
 use Rattle.versions.specs.History.{History, commits_at}
 use Rattle.versions.proofs.Stamping.{stamp_version, rel_commit, tidy_commit}
 use Rattle.cells.proofs.Horizons.{horizon_low, horizon_close}
-use Rattle.cells.proofs.Maps.{option_map, map_each, map_one_if, map_cond, kept_map, first_map}
+use Rattle.cells.proofs.Maps.{map_each, map_one_if, map_cond, kept_map, first_map}
 use Rattle.cells.proofs.Cells.{Cell, Pending, QuietEnd, mover, hot_version, cold_version, hot_part, cold_part, entry_version, kind_version, Whole}
 use Rattle.cells.proofs.Cells.{c_empty, c_plain, c_idle, c_chosen, c_copied, c_begun, c_ended, c_both, c_emptied}
 use Rattle.cells.proofs.Sessions.{shut, shut_agree, shut_many, shut_early, shut_reads}

@@ -1,6 +1,6 @@
 -- Copy keeps the relation: the new cold entry is hidden by the pending notice of its cell. A refused copy leaves only a
 -- wider filter.
-use Rattle.std.proofs.Common.{◌≡◌, ℕ, ◌≤◌, Bool, true, ◌&&◌, eqb, List, [], length, Some, sym, refl, ap, ◌∙◌, subst, inl, inr, arith}
+use Rattle.std.proofs.Common.{◌≡◌, ℕ, ◌≤◌, Bool, true, ◌&&◌, eqb, List, [], length, Some, sym, refl, ap, ◌∙◌, subst, inl, inr}
 use Rattle.std.proofs.lemmas.Bool.{cases_Bool, eqb-true}
 use Rattle.rules.specs.declared.tables.HotRow.{HotRow}
 use Rattle.rules.specs.declared.tables.MoveMark.{MoveMark}
@@ -20,9 +20,9 @@ use Rattle.cells.proofs.Entries.{kept_put_miss, kept_put_hit, each_put, any_put}
 use Rattle.cells.proofs.Splitting.{cond_nil}
 
 chosen_is : (m : MoveMark) (t : ℕ) → is_chosen m t ≡ true → m ≡ Chosen t
-chosen_is Unmoved t h = absurd (let z : ◌≡◌ {A = ℕ} 0 1 = cc in omega arith)
+chosen_is Unmoved t h = absurd cc
 chosen_is (Chosen u) t h = ap Chosen (eqb-true u t h)
-chosen_is (Copied u) t h = absurd (let z : ◌≡◌ {A = ℕ} 0 1 = cc in omega arith)
+chosen_is (Copied u) t h = absurd cc
 
 module _ {K R : Type 0} (number : K → ℕ) (σ : Store K R) (T : History R) (w : Whole number σ T) (admits : ℕ → Bool) where
   -- a filter that admits all that it did

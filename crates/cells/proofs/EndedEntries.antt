@@ -1,5 +1,5 @@
 -- Ending a cold entry that a session sees: its notice is turned, or a new one is added, with the session's mark as the end.
-use Rattle.std.proofs.Common.{◌≡◌, ℕ, Bool, true, false, cond, ◌&&◌, eqb, List, [], ◌∷◌, ◌++◌, Some, None, sym, refl, ap, ◌∙◌, inl, inr, append_assoc, append-nil, arith}
+use Rattle.std.proofs.Common.{◌≡◌, ℕ, Bool, true, false, cond, ◌&&◌, eqb, List, [], ◌∷◌, ◌++◌, Some, None, sym, refl, ap, ◌∙◌, inl, inr, append_assoc, append-nil}
 use Rattle.std.proofs.lemmas.Bool.{cases_Bool, eqb-true, eq-eqb, ne_eqb, and_parts}
 use Rattle.rules.specs.declared.times.Moment.TheVariants as moment
 use Rattle.rules.specs.declared.tables.Kind.{Kind}
@@ -149,7 +149,7 @@ module _ {K R : Type 0} (number : K → ℕ) {σ : Store K R} {T : History R} {s
 
     -- an entry under an N or X notice is not seen
     hidden : (kind : Kind) → n.kind ≡ kind → kind_sees kind n.begin n.end s time ≡ false → Ended
-    hidden kind q h = absurd (let g = sees_kind kind q in let z : ◌≡◌ {A = ℕ} 0 1 = cc in omega arith)
+    hidden kind q h = absurd (let g = sees_kind kind q in cc)
 
   ended_cell : Shape k tag (kept its σ.memo) → Ended
   ended_cell (c_empty p q z) = by_none p z

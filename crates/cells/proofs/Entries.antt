@@ -1,11 +1,12 @@
 -- What a filter and a fold see of the cold list after an entry is put in, and after a cell's entries are removed.
 use Rattle.std.proofs.Common.{◌≡◌, ℕ, Bool, true, false, cond, not, ◌||◌, List, [], ◌∷◌, ◌++◌, refl, ap, ◌∙◌, inl, inr, arith}
-use Rattle.std.proofs.lemmas.Bool.{cases_Bool}
+use Rattle.std.proofs.lemmas.Bool.{both_ways, cases_Bool, true_from_ne_false}
 use Rattle.std.proofs.lemmas.Bool.Decides.{nat_tests}
 use Rattle.cold.specs.Cold.{Entry, before, is_of, put_in, removed_after}
 use Rattle.slots.specs.Lists.{any, each, kept, one}
 use Rattle.slots.proofs.Folds.{all_then, each_kept}
 use Rattle.slots.proofs.Edits.{kept_kept, kept_none, kept_passes, none_kept}
+use Rattle.cells.proofs.Found.{none_of_kept}
 use Rattle.cells.proofs.OneCell.{SameElsewhere}
 
 module _ {R : Type 0} where
@@ -66,12 +67,7 @@ module _ {R : Type 0} where
       stays c q = grind (arith, nat_tests)
 
   any_kept : (p q : Entry R → Bool) (xs : List (Entry R)) → any q (kept p xs) ≡ true → any q xs ≡ true
-  unfolding kept any
-  any_kept p q [] h = h
-  any_kept p q (x ∷ xs) h = let ih = any_kept p q xs in elim (cases_Bool (p x)) [
-    | inl y ↦ let g : (q x || any q (kept p xs)) ≡ true = rw y at h in grind arith
-    | inr y ↦ let g : any q xs ≡ true = ih (rw y at h) in grind arith
-  ]
+  any_kept p q xs h = true_from_ne_false (any q xs) (λ none. both_ways _ (none_of_kept q p xs none) h)
 
   pub any_removed : (q : Entry R → Bool) (xs : List (Entry R)) (i j : ℕ) → any q (removed_after xs i j) ≡ true → any q xs ≡ true
   any_removed q xs i j h = any_kept (λ c. not (is_of i j c)) q xs (rw (removed_is xs i j) at h)

@@ -1,10 +1,11 @@
 -- General lemmas: what all elements of a list have, one that a search finds has; and what a search finds nowhere, no
 -- element has.
-use Rattle.std.proofs.Common.{◌≡◌, ℕ, Bool, true, false, ◌&&◌, eqb, List, [], ◌∷◌, Some, refl, subst, arith}
+use Rattle.std.proofs.Common.{◌≡◌, ℕ, Bool, true, false, ◌&&◌, eqb, List, [], ◌∷◌, Some, refl, subst}
 use Rattle.std.specs.List.{AllByRecursion as All}
+use Rattle.std.proofs.ByRecursion.{all_kept_by}
 use Rattle.std.proofs.lemmas.Bool.{eq-eqb}
-use Rattle.slots.specs.Lists.{first, any, each}
-use Rattle.slots.proofs.Folds.{none_all, all_front, all_back, spot, first_some}
+use Rattle.slots.specs.Lists.{first, any, kept, each}
+use Rattle.slots.proofs.Folds.{none_all, all_none, all_front, all_back, spot, first_some}
 
 -- an element found by a test has what all elements have
 pub found_all : {X : Type 0} (P : X → Type 0) (p : X → Bool) (xs : List X) (x : X) → All P xs → first p xs ≡ Some x → P x
@@ -24,6 +25,11 @@ none_found p xs f = go (any p xs) refl
     go false is = refl
     go true is = let found = first_some p xs is in absurd (f found.0 found.1)
 
+-- none of a part passes where none passes
+pub none_of_kept : {X : Type 0} (p q : X → Bool) (xs : List X) → any p xs ≡ false → any p (kept q xs) ≡ false
+unfolding kept
+none_of_kept p q xs none = all_none p (kept q xs) (all_kept_by q _ xs (none_all p xs none))
+
 -- no element passes where none of any key does
 pub none_by_key : {X : Type 0} (key : X → ℕ) (p : X → Bool) (xs : List X)
     → ((k : ℕ) → any (λ x. eqb (key x) k && p x) xs ≡ false) → any p xs ≡ false
@@ -31,5 +37,4 @@ none_by_key key p xs none = none_found p xs (λ x found.
     let its = found_all (λ y. (eqb (key y) (key x) && p y) ≡ false) p xs x (none_all _ xs (none (key x))) found in
     let fails : p x ≡ false = rw (eq-eqb (key x) (key x) refl) at its in
     let passes = (spot p xs x found).passes in
-    let z : ◌≡◌ {A = ℕ} 0 1 = cc in
-    omega arith)
+    cc)

@@ -1,5 +1,5 @@
 -- What a lookup finds is what the history shows, under the session's own writes.
-use Rattle.std.proofs.Common.{◌≡◌, ℕ, Bool, true, false, cond, ◌&&◌, eqb, List, [], ◌∷◌, ◌++◌, Some, None, Option, sym, refl, ap, ◌∙◌, subst, inl, inr, append-nil, arith}
+use Rattle.std.proofs.Common.{◌≡◌, ℕ, Bool, true, false, cond, ◌&&◌, eqb, List, [], ◌∷◌, ◌++◌, Some, None, Option, sym, refl, ap, ◌∙◌, subst, inl, inr, append-nil, arith, option_map}
 use Rattle.std.proofs.lemmas.Bool.{cases_Bool}
 use Rattle.rules.specs.declared.times.Moment.{Moment}
 use Rattle.rules.specs.declared.sheet.Reading.{Reading}
@@ -19,7 +19,6 @@ use Rattle.versions.proofs.Versions.{Version, v_sees, rows, writes_of}
 use Rattle.versions.proofs.Rows.{rows_append}
 use Rattle.versions.proofs.Marks.{no_mark}
 use Rattle.versions.proofs.Seeing.{plain_reader}
-use Rattle.cells.proofs.Maps.{option_map}
 use Rattle.cells.proofs.Cells.{hot_version, cold_version, hot_part, cold_part, versions, entry_version, kind_version, Whole}
 use Rattle.cells.proofs.Sessions.{Reader, reader, read_time}
 use Rattle.cells.proofs.Walking.{found, entry_sees, looked_is}

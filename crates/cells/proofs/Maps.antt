@@ -1,16 +1,11 @@
 -- Lemmas on map and each, over lists of any element: what a filter, a search and a fold see of a list that is changed
 -- element by element.
-use Rattle.std.proofs.Common.{◌≡◌, Bool, true, false, cond, List, [], ◌∷◌, ◌++◌, map, Some, None, Option, refl, ap, ◌∙◌, inl, inr}
+use Rattle.std.proofs.Common.{◌≡◌, Bool, true, false, cond, List, [], ◌∷◌, ◌++◌, map, refl, ap, ◌∙◌, inl, inr, option_map}
 use mathlib.Core.List.{map-append}
 use Rattle.std.specs.List.{AllByRecursion as All}
 use Rattle.std.proofs.lemmas.Bool.{cases_Bool}
 use Rattle.slots.specs.Lists.{first, kept, one, each, one_if}
 use Rattle.slots.proofs.Folds.{kept_append}
-
--- f of what an option holds
-abbrev pub option_map : {X Y : Type 0} → (X → Y) → Option X → Option Y
-option_map f None = None
-option_map f (Some x) = Some (f x)
 
 -- map
 pub map_each : {X Y Z : Type 0} (f : Y → Z) (g : X → List Y) (xs : List X)

@@ -1,5 +1,5 @@
 -- A new row of a key: where the session sees nothing of the key and has begun no version of it, its put adds one.
-use Rattle.std.proofs.Common.{◌≡◌, ℕ, false, eqb, List, [], ◌++◌, Some, sym, refl, ap, ◌∙◌, subst, append_assoc, append-nil, arith, None}
+use Rattle.std.proofs.Common.{◌≡◌, ℕ, false, eqb, List, [], ◌++◌, Some, sym, refl, ap, ◌∙◌, subst, append_assoc, append-nil, None}
 use Rattle.std.proofs.lemmas.Bool.{eq-eqb, ne_eqb, and_right}
 use Rattle.rules.specs.declared.times.Moment.TheVariants as moment
 use Rattle.rules.specs.declared.tables.HotRow.{HotRow}
@@ -66,7 +66,7 @@ module _ {K R : Type 0} (number : K → ℕ) where
 
     pub whole_add : Whole number (push_hot σ new) (puts T s (number key) row)
     whole_add =
-        whole_write number m (Some (Some row)) (λ h. absurd (let z : ◌≡◌ {A = ℕ} 0 1 = cc in omega arith)) _ _
+        whole_write number m (Some (Some row)) (λ h. absurd cc) _ _
         (record {
           cells = λ j tag.
               let unmoved : kept (mover number j tag) (one new) ≡ [] =

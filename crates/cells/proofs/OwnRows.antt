@@ -1,5 +1,5 @@
 -- Put and drop on the session's own unfinished version: its row is replaced, or it is taken out.
-use Rattle.std.proofs.Common.{◌≡◌, ℕ, Bool, true, false, cond, eqb, List, [], ◌∷◌, ◌++◌, Some, None, Option, sym, refl, ap, ◌∙◌, inl, inr, arith}
+use Rattle.std.proofs.Common.{◌≡◌, ℕ, Bool, true, false, cond, eqb, List, [], ◌∷◌, ◌++◌, Some, None, Option, sym, refl, ap, ◌∙◌, inl, inr}
 use Rattle.std.proofs.lemmas.Bool.{cases_Bool, and_parts}
 use Rattle.rules.specs.declared.times.Moment.TheVariants as moment
 use Rattle.rules.specs.declared.tables.HotRow.{HotRow}
@@ -20,12 +20,12 @@ use Rattle.cells.proofs.Writes.{MayWrite, written, whole_write, ready}
 use Rattle.cells.proofs.HotEdits.{front, back, around, around_set, around_out, others_set, others_out}
 
 was_put : {R : Type 0} (o : Option (Option R)) (q : R) → put_of o ≡ Some q → o ≡ Some (Some q)
-was_put None q h = absurd (let z : ◌≡◌ {A = ℕ} 0 1 = cc in omega arith)
+was_put None q h = absurd cc
 was_put (Some u) q h = ap Some h
 
 was_had : {R : Type 0} (t : Bool) → cond {A = Option (Option R)} t (Some None) None ≡ Some None → t ≡ true
 was_had true h = refl
-was_had false h = absurd (let z : ◌≡◌ {A = ℕ} 0 1 = cc in omega arith)
+was_had false h = absurd cc
 
 module _ {K R : Type 0} (number : K → ℕ) {σ : Store K R} {T : History R} {s : ℕ} {key : K} (m : MayWrite number σ T s key)
     (x : HotRow K R) (is : first (hot_own number s (number key)) σ.hot ≡ Some x) where
@@ -64,8 +64,7 @@ module _ {K R : Type 0} (number : K → ℕ) {σ : Store K R} {T : History R} {s
         let lone = kept_it at (mover number j tag) t (few_movers _ _ _ _ cell) in
         let begun = under_move _ _ _ _ x cell lone in
         let stamped : begin_marked (moment.Stamp begun.stamp) s ≡ true = ap (λ z. begin_marked z s) (sym begun.begins) ∙ own in
-        let z : ◌≡◌ {A = ℕ} 0 1 = cc in
-        omega arith)
+        cc)
     | inr t ↦ t
   ]
 
@@ -87,7 +86,7 @@ module _ {K R : Type 0} (number : K → ℕ) {σ : Store K R} {T : History R} {s
       let f : HotRow K R → List (HotRow K R) = λ z. one (with_row row z) in
       let put : Rel (horizon_of σ) T.commits (puts T s k row).turn k (before ++ (row_version (with_row row x) ∷ behind)) =
       rel_own_put before (row_version x) behind split has_put.0 own has_put.1 row (written number m (Some (Some row))) in
-      whole_write number m (Some (Some row)) (λ h. absurd (let z : ◌≡◌ {A = ℕ} 0 1 = cc in omega arith)) _ _
+      whole_write number m (Some (Some row)) (λ h. absurd cc) _ _
       (own_sound f (λ j tag. kept_miss (mover number j tag) (with_row row x) (still j tag)))
       (rw (around_set number σ k at its f (with_row row x) refl refl) put)
       (others_set number σ k at its f (with_row row x) refl refl)

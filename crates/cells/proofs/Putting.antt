@@ -1,6 +1,6 @@
 -- Put and drop. On the session's own unfinished version they replace its row or take it out. Else what the session sees of
 -- the key is ended, and a put adds a new row.
-use Rattle.std.proofs.Common.{◌≡◌, ℕ, Bool, true, false, cond, ◌⊎◌, List, [], Some, None, Option, sym, refl, ap, ◌∙◌, subst, inl, inr, arith}
+use Rattle.std.proofs.Common.{◌≡◌, ℕ, Bool, true, false, cond, ◌⊎◌, List, [], Some, None, Option, sym, refl, ap, ◌∙◌, subst, inl, inr}
 use Rattle.rules.specs.declared.sheet.Reading.{Reading}
 use Rattle.rules.specs.declared.tables.HotRow.{HotRow}
 use Rattle.cold.specs.Cold.{Entry}
@@ -26,7 +26,7 @@ module _ {R : Type 0} where
   put_none : (o : Option (Option R)) → list_of (put_of o) ≡ [] → (o ≡ None) ⊎ (o ≡ Some None)
   put_none None h = inl refl
   put_none (Some None) h = inr refl
-  put_none (Some (Some q)) h = absurd (let z : ◌≡◌ {A = ℕ} 0 1 = cc in omega arith)
+  put_none (Some (Some q)) h = absurd cc
 
   drop_no_put : (t : Bool) (v : Option (Option R)) → v ≡ cond t (Some None) None → list_of (put_of v) ≡ []
   drop_no_put true v h = rw h
@@ -35,7 +35,7 @@ module _ {R : Type 0} where
   list_head : (xs : List R) (o : Option R) → xs ≡ list_of o → head xs ≡ None → xs ≡ []
   unfolding head
   list_head xs None h g = h
-  list_head xs (Some q) h g = absurd (let z : ◌≡◌ {A = ℕ} 0 1 = cc in omega arith)
+  list_head xs (Some q) h g = absurd cc
 
 module _ {K R : Type 0} (number : K → ℕ) where
   -- after what is seen is ended, a put is a new row
@@ -77,8 +77,7 @@ module _ {K R : Type 0} (number : K → ℕ) where
       | inl e ↦ e
       | inr e ↦ absurd (
           let none : row_of (found hot_seen cold_seen) ≡ None = looks ∙ ap (λ z. over z (shown T.commits time k)) e in
-          let z : ◌≡◌ {A = ℕ} 0 1 = cc in
-          omega arith)
+          cc)
     ]
 
     -- a key that it does not see, it has dropped if it had it

@@ -1,5 +1,5 @@
 -- Sessions and the turns of the history: what a whole store knows of an open session, and what closing one leaves.
-use Rattle.std.proofs.Common.{◌≡◌, ℕ, ◌<◌, ◌≤◌, List, length, set, Some, None, Option, sym, refl, ap, ◌∙◌, subst, inl, inr, arith}
+use Rattle.std.proofs.Common.{◌≡◌, ℕ, ◌<◌, ◌≤◌, List, length, set, Some, None, Option, sym, refl, ap, ◌∙◌, subst, inl, inr}
 use Rattle.std.specs.List.{AllByRecursion as All}
 use Rattle.std.proofs.ByRecursion.{All-set}
 use Rattle.std.proofs.lemmas.List.{get_or-set_other, get_or-set_same, length-set}
@@ -17,7 +17,7 @@ module _ {K R : Type 0} (number : K → ℕ) where
   -- a session that has written is open, and reads when the history says
   pub writer_open : (o : Option Reading) (x : Option (Turn R)) (k : ℕ) (v : Option R)
       → Agree number o x → turn_writes x k ≡ Some v → (r : Reading) × (o ≡ Some r) × (r.time ≡ turn_read x)
-  writer_open None None k v a h = absurd (let z : ◌≡◌ {A = ℕ} 0 1 = cc in omega arith)
+  writer_open None None k v a h = absurd cc
   writer_open None (Some y) k v a h = elim a [ ]
   writer_open (Some r) None k v a h = elim a [ ]
   writer_open (Some r) (Some y) k v a h = (r, refl, sym a.1)
@@ -30,7 +30,7 @@ module _ {K R : Type 0} (number : K → ℕ) where
   closed_turn None None a h = refl
   closed_turn None (Some y) a h = elim a [ ]
   closed_turn (Some r) None a h = elim a [ ]
-  closed_turn (Some r) (Some y) a h = absurd (let z : ◌≡◌ {A = ℕ} 0 1 = cc in omega arith)
+  closed_turn (Some r) (Some y) a h = absurd cc
 
   -- session s is open: the history has its turn, and its read time is between the horizon and the clock
   pub record Reader (σ : Store K R) (T : History R) (s : ℕ) : Type 0 where

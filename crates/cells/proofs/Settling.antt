@@ -1,5 +1,5 @@
 -- Settle keeps the relation: the version of the row that is taken out is the version that its cold entry now has.
-use Rattle.std.proofs.Common.{◌≡◌, ℕ, ◌≤◌, true, cond, ◌&&◌, eqb, List, [], ◌++◌, length, Some, refl, ap, ◌∙◌, subst, append_assoc, arith, None, Option}
+use Rattle.std.proofs.Common.{◌≡◌, ℕ, ◌≤◌, true, cond, ◌&&◌, eqb, List, [], ◌++◌, length, Some, refl, ap, ◌∙◌, subst, append_assoc, None, Option}
 use Rattle.std.proofs.lemmas.Bool.{eqb-true, and_parts}
 use Rattle.rules.specs.declared.times.Moment.{Moment}
 use Rattle.rules.specs.declared.tables.HotRow.{HotRow}
@@ -29,8 +29,8 @@ use Rattle.cells.proofs.OneCell.{SameElsewhere, only_one, edit_here, edit_elsewh
 use Rattle.cells.proofs.Splitting.{Elsewhere, Split, split, version_at, cond_nil, cond_one}
 
 copied_is : (m : MoveMark) (t : ℕ) → is_copied m t ≡ true → m ≡ Copied t
-copied_is Unmoved t h = absurd (let z : ◌≡◌ {A = ℕ} 0 1 = cc in omega arith)
-copied_is (Chosen u) t h = absurd (let z : ◌≡◌ {A = ℕ} 0 1 = cc in omega arith)
+copied_is Unmoved t h = absurd cc
+copied_is (Chosen u) t h = absurd cc
 copied_is (Copied u) t h = ap Copied (eqb-true u t h)
 
 module _ {R : Type 0} where

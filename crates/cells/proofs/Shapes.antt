@@ -27,7 +27,7 @@ every_pair i j P here others k t = elim (cases_Bool (same_pair i j k t)) [
 
 -- no list has one element and none
 pub none_and_one : {X : Type 0} (A : Type 0) {xs : List X} {x : X} → xs ≡ [] → xs ≡ one x → A
-none_and_one A p q = absurd (let z : ◌≡◌ {A = ℕ} 0 1 = cc in omega arith)
+none_and_one A p q = absurd cc
 
 module _ {R : Type 0} where
   -- the entries of a cell, by the move mark of its row: none before the copy, the row's own after it

@@ -34,12 +34,12 @@ use Rattle.cells.proofs.Splitting.{Elsewhere, elsewhere_version, cold_calm, vers
 past_quiet : (h : ℕ) (y : Option Moment) → end_past y h ≡ true → QuietEnd h y
 past_quiet h None p = tt
 past_quiet h (Some (moment.Stamp m)) p = leb-true m h p
-past_quiet h (Some (moment.Mark m)) p = absurd (let z : ◌≡◌ {A = ℕ} 0 1 = cc in omega arith)
+past_quiet h (Some (moment.Mark m)) p = absurd cc
 
 past_low : (h x : ℕ) (y : Option Moment) → end_past y h ≡ true → Shaped (moment.Stamp x) y → x ≤ h
-past_low h x None p s = absurd (let z : ◌≡◌ {A = ℕ} 0 1 = cc in omega arith)
+past_low h x None p s = absurd cc
 past_low h x (Some (moment.Stamp m)) p s = omega (arith, leb-true m h p)
-past_low h x (Some (moment.Mark m)) p s = absurd (let z : ◌≡◌ {A = ℕ} 0 1 = cc in omega arith)
+past_low h x (Some (moment.Mark m)) p s = absurd cc
 
 all_kept : {X : Type 0} (P : X → Type 0) (p : X → Bool) (xs : List X) → All P xs → All P (kept p xs)
 unfolding kept

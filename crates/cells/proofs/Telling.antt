@@ -113,8 +113,7 @@ module _ {K R : Type 0} (number : K → ℕ) (σ : Store K R) (k : ℕ) where
         let own = kept_it place (is_for number k n.tag) (rw (its.0, eq-eqb n.tag n.tag refl)) (few_notes _ _ _ _ cell) in
         let free = notice_free g fails cell n own (λ c entry. at_notice (Free g) n c all own entry) in
         let passes = its.1 in
-        let z : ◌≡◌ {A = ℕ} 0 1 = cc in
-        omega arith)
+        cc)
 
     pub tells_hot : any (hot_passes number g k) σ.hot ≡ false
     tells_hot =

@@ -16,7 +16,7 @@ use Rattle.versions.specs.History.{History}
 use Rattle.versions.proofs.Versions.{v_above, writes_of, wrote_above}
 use Rattle.versions.proofs.Marks.{v_marked, no_mark, has_mark}
 use Rattle.cells.proofs.Found.{none_by_key}
-use Rattle.cells.proofs.Cells.{QuietEnd, versions, Whole}
+use Rattle.cells.proofs.Cells.{QuietEnd, quiet_unmarked, versions, Whole}
 use Rattle.cells.proofs.Telling.{Free, FailsPast, FailsParts, tells_notices, tells_hot, tells_versions, or_open, or_one}
 
 -- two tests are the same where each fails if the other does
@@ -52,13 +52,8 @@ mark_of s x y = begin_marked x s || end_marked y s
 mark_parts : (s : ℕ) → FailsParts (mark_of s)
 mark_parts s = record { plain = refl; opens = λ x y free. refl; ones = λ x y free. free }
 
-mark_quiet : (s h : ℕ) (y : Option Moment) → QuietEnd h y → end_marked y s ≡ false
-mark_quiet s h None quiet = refl
-mark_quiet s h (Some (moment.Stamp n)) quiet = refl
-mark_quiet s h (Some (moment.Mark n)) quiet = elim quiet [ ]
-
 mark_past : (s h : ℕ) → FailsPast h (mark_of s)
-mark_past s h = record { plain = refl; quiet = λ x y low quiet. mark_quiet s h y quiet }
+mark_past s h = record { plain = refl; quiet = λ x y low quiet. quiet_unmarked s h y quiet }
 
 module _ {K R : Type 0} (number : K → ℕ) (σ : Store K R) (T : History R) (w : Whole number σ T) where
   pub above_is : (t k : ℕ) → horizon_of σ ≤ t → 1 ≤ t → above number σ t k ≡ wrote_above T.commits t k
@@ -85,7 +80,7 @@ module _ {K R : Type 0} (number : K → ℕ) (σ : Store K R) (T : History R) (w
       let memo = all_none _ σ.memo (all_then _ _ σ.memo (none_all _ σ.memo parts.1) (λ x free. and_right _ _ free)) in
       let free = all_none (v_marked s) _ (tells_versions number σ k (mark_of s) (mark_parts s) memo hot) in
       let marked = has_mark (w.rel k) (w.tidy k) s v wrote in
-      absurd (let z : ◌≡◌ {A = ℕ} 0 1 = cc in omega arith)
+      absurd cc
 
   -- and a session without writes has no marks
   pub none_marked : (s : ℕ) → ((k : ℕ) → writes_of T.turn s k ≡ None) → has_marks σ s ≡ false

@@ -39,7 +39,7 @@ module _ {R : Type 0} where
     elim (cases_lt last c.tag) [
       | inl l ↦
           let no : is_of c.number c.tag c ≡ false = (none_kept _ (c ∷ cold) (f c.number c.tag l)).0 in
-          absurd (let z : ◌≡◌ {A = ℕ} 0 1 = grind (arith, nat_tests) in omega arith)
+          absurd (grind (arith, nat_tests))
       | inr l ↦ l
     ],
     low_tags last cold (λ k tag l. kept_none _ cold (none_kept (is_of k tag) (c ∷ cold) (f k tag l)).1),
@@ -82,12 +82,11 @@ module _ {K R : Type 0} (number : K → ℕ) where
             let at = spot (entry_sees σ.memo s t k) σ.cold c p in
             let its = (and_parts (eqb c.number k) (cold_sees number σ.memo s t c) at.passes).0 in
             elim (cases_Bool (any (λ x. eqb x.number k) σ.cold)) [
-              | inl y ↦ absurd (let g = w.sound.known k y in let z : ◌≡◌ {A = ℕ} 0 1 = cc in omega arith)
+              | inl y ↦ absurd (let g = w.sound.known k y in cc)
               | inr y ↦ absurd (
                   let g : eqb c.number k ≡ false =
                   found_all (λ x. eqb x.number k ≡ false) (entry_sees σ.memo s t k) σ.cold c (none_all _ σ.cold y) p in
-                  let z : ◌≡◌ {A = ℕ} 0 1 = cc in
-                  omega arith)
+                  cc)
             ]
 
     -- a lookup finds the first hot row that is seen, else the key's first entry that is

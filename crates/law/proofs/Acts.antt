@@ -1,7 +1,7 @@
 -- A session's own puts and drops, replayed on a table that shows a key as the session saw it at its read time, leave of
 -- that key what the session sees.
 use Rattle.std.proofs.Common.{◌≡◌, ℕ, ◌+◌, ◌≤◌, Bool, true, false, cond, ◌&&◌, eqb, List, [], ◌∷◌, is_some, Some, None, Option, sym, refl, ap, ◌∙◌, subst, arith, Ok, Err}
-use Rattle.std.proofs.lemmas.Bool.{eqb-true, eq-eqb, ne_eqb, lt-leb, or_parts}
+use Rattle.std.proofs.lemmas.Bool.{eqb-true, eq-eqb, ne_eqb, lt-leb, or_parts, true≢false}
 use Rattle.rules.specs.declared.sheet.Mode.{Mode}
 use Rattle.rules.specs.declared.answers.Answer.TheVariants as answer
 use Rattle.rules.specs.declared.answers.Call.{Call}
@@ -16,9 +16,6 @@ use Rattle.law.specs.Single.{Table}
 use Rattle.law.specs.Episodes.{closes_by, commit_closes, own_act, own_acts}
 use Rattle.law.proofs.Past.{BeginFact, CommitFact, Fact, Facts, feeds, Past, past_step, by_answer}
 
-false_true : {A : Type 0} → true ≡ false → A
-false_true e = absurd (let z : ◌≡◌ {A = ℕ} 0 1 = cc in omega arith)
-
 module _ {R : Type 0} where
   -- session s is open in mode m with read time r, at which v is shown of key k
   pub record Working (T : History R) (s : ℕ) (m : Mode) (k r : ℕ) (v : Option R) : Type 0 where
@@ -29,7 +26,7 @@ module _ {R : Type 0} where
     pub seen : shown T.commits r k ≡ v
 
   none_some : (y : Turn R) {A : Type 0} {o : Option (Turn R)} → o ≡ None → o ≡ Some y → A
-  none_some y e f = absurd (let z : ◌≡◌ {A = ℕ} 0 1 = cc in omega arith)
+  none_some y e f = absurd cc
 
   module _ (T : History R) (s : ℕ) (m : Mode) (k r : ℕ) (v : Option R) (w : Working T s m k r v) where
     -- another session's turn changes
@@ -117,7 +114,7 @@ module _ {K R : Type 0} (number : K → ℕ) where
 
     -- the event does not close the session
     not_closing : (u : ℕ) (t : Bool) → (eqb u s && t) ≡ false → t ≡ true → eqb s u ≡ false
-    not_closing u t e q = ne_eqb s u (λ z. false_true (sym (rw (eq-eqb u s (sym z), q) refl) ∙ e))
+    not_closing u t e q = ne_eqb s u (λ z. true≢false (sym (rw (eq-eqb u s (sym z), q) refl) ∙ e))
 
     commit_goes : (u : ℕ) (a : Told R) → CommitFact T u a → (eqb u s && commit_closes a) ≡ false → Goes (feed_commit T u a) table
     commit_goes u (Ok answer.Done) f e = stays

@@ -1,5 +1,5 @@
 -- Two runs with the same seller calls answer them alike, whatever other calls fall between.
-use Rattle.std.proofs.Common.{◌≡◌, ℕ, zero, suc, true, false, List, [], ◌∷◌, take, sym, refl, ap, ◌∙◌, subst, inl, inr, arith}
+use Rattle.std.proofs.Common.{◌≡◌, ℕ, zero, suc, true, false, List, [], ◌∷◌, take, sym, refl, ap, ◌∙◌, subst, inl, inr}
 use Rattle.std.proofs.lemmas.Bool.{cases_Bool, or_parts}
 use Rattle.slots.specs.Lists.{any, kept}
 use Rattle.rules.specs.Stores.{Store}
@@ -69,8 +69,8 @@ module _ {K R : Type 0} (number : K → ℕ) where
       → answers (take n xs) ≡ answers (take n ys)
   unfolding Sales any
   all_sales [] [] σ τ T l s t c n p q = refl
-  all_sales [] (y ∷ ys) σ τ T l s t c n p q = absurd (let z : ◌≡◌ {A = ℕ} 0 1 = cc in omega arith)
-  all_sales (x ∷ xs) [] σ τ T l s t c n p q = absurd (let z : ◌≡◌ {A = ℕ} 0 1 = cc in omega arith)
+  all_sales [] (y ∷ ys) σ τ T l s t c n p q = absurd cc
+  all_sales (x ∷ xs) [] σ τ T l s t c n p q = absurd cc
   all_sales (x ∷ xs) (y ∷ ys) σ τ T l s t c zero p q = refl
   all_sales (x ∷ xs) (y ∷ ys) σ τ T l s t c (suc n) p q =
       let call : x.call ≡ y.call = cc in

@@ -47,7 +47,7 @@ module _ {R : Type 0} where
       go None e above none ih = rw (e, ih) (either (leb c.stamp t) (leb c.stamp r) (shown cs r k))
       go (Some w) e above none ih =
           absurd (let u : (ltb r c.stamp && true) ≡ false = rw e at none in let v = lt-ltb r c.stamp above in
-          let z : ◌≡◌ {A = ℕ} 0 1 = cc in omega arith)
+          cc)
 
 module _ {K R : Type 0} (number : K → ℕ) where
   later_step : (T : History R) (c : Call K R) (a : Told R) → Fact T c a → Later T (feed number T c a)

@@ -1,6 +1,6 @@
 -- A session's ledger lines stay until the session is closed.
-use Rattle.std.proofs.Common.{◌≡◌, ℕ, Bool, true, false, cond, not, ◌&&◌, ◌||◌, eqb, ltb, leb, List, [], ◌∷◌, ◌++◌, Some, None, Option, sym, refl, ap, ◌∙◌, subst, inl, inr, arith}
-use Rattle.std.proofs.lemmas.Bool.{cases_Bool, cond_both, eqb-true, eq-eqb, ne_eqb, and_parts, or_parts}
+use Rattle.std.proofs.Common.{◌≡◌, ℕ, Bool, true, false, cond, not, ◌&&◌, eqb, ltb, leb, List, [], ◌∷◌, ◌++◌, Some, None, Option, sym, refl, ap, ◌∙◌, subst, inl, inr}
+use Rattle.std.proofs.lemmas.Bool.{cases_Bool, cond_both, eqb-true, eq-eqb, ne_eqb, and_parts, or_parts, or_left}
 use Rattle.slots.specs.Lists.{any, kept, one}
 use Rattle.slots.proofs.Folds.{any_append}
 use Rattle.rules.specs.declared.tables.Line.{Line}
@@ -28,9 +28,6 @@ any_kept p q (x ∷ xs) f h = elim (cases_Bool (p x)) [
   | inr y ↦ let ih = any_kept p q xs f (rw y at h) in elim (cases_Bool (q x)) [ inl z ↦ rw (z, y) ih | inr z ↦ rw z ih ]
 ]
 
-or_first : (x y : Bool) → x ≡ true → (x || y) ≡ true
-or_first x y e = grind arith
-
 module _ {K R : Type 0} (number : K → ℕ) where
   -- ending a version leaves the ledger
   pub end_ledger : (σ : Store K R) (s t : ℕ) (key : K) (v : Seen K R) → (end_seen number σ s t key v).ledger ≡ σ.ledger
@@ -50,7 +47,7 @@ module _ {K R : Type 0} (number : K → ℕ) where
         → Has (cond (is_checked m && not (any (line_for number u (number j)) lines)) (lines ++ one (record { session = u; key = j })) lines)
     noted_has lines e m u j =
         cond_both (is_checked m && not (any (line_for number u (number j)) lines)) _ _ Has
-        (λ _. any_append (line_for number s k) lines _ ∙ or_first _ _ (ap (any (line_for number s k)) e ∙ h))
+        (λ _. any_append (line_for number s k) lines _ ∙ or_left _ _ (ap (any (line_for number s k)) e ∙ h))
         (λ _. ap (any (line_for number s k)) e ∙ h)
 
     closed_has : (u : ℕ) → (u ≡ s → ⊥) → Has (kept (line_stays u) σ.ledger)
@@ -59,7 +56,7 @@ module _ {K R : Type 0} (number : K → ℕ) where
         rw (e, ne_eqb s u (λ z. ne (sym z))) refl) h
 
     not_closed : (u : ℕ) → (eqb u s && true) ≡ false → u ≡ s → ⊥
-    not_closed u e q = let f = eq-eqb u s q in let z : ◌≡◌ {A = ℕ} 0 1 = cc (rw f at e) in omega arith
+    not_closed u e q = let f = eq-eqb u s q in cc (rw f at e)
 
     begin_line : (u : ℕ) (m : Mode) → Stays (call.Begin u m) (begin_rule σ.lengths σ u m)
     begin_line u m = lent_own (Stays (call.Begin u m)) _ σ σ _

@@ -1,7 +1,7 @@
 -- What the answers of a checked session tell: a read or drop, of the history at its read time and of its ledger lines; a commit,
 -- that no key of its lines was written since.
-use Rattle.std.proofs.Common.{◌≡◌, ℕ, ◌+◌, Bool, true, false, cond, not, ◌&&◌, ◌||◌, eqb, leb, ◌⊎◌, List, ◌++◌, is_some, Some, Option, sym, refl, ap, ◌∙◌, subst, inl, inr, arith, Ok, Err}
-use Rattle.std.proofs.lemmas.Bool.{cond_both, eqb-true, eq-eqb, and_parts}
+use Rattle.std.proofs.Common.{◌≡◌, ℕ, ◌+◌, Bool, true, false, cond, not, ◌&&◌, eqb, leb, ◌⊎◌, List, ◌++◌, is_some, Some, Option, sym, refl, ap, ◌∙◌, subst, inl, inr, arith, Ok, Err}
+use Rattle.std.proofs.lemmas.Bool.{cond_both, eqb-true, eq-eqb, and_parts, or_right}
 use Rattle.slots.specs.Lists.{any, one}
 use Rattle.slots.proofs.Folds.{any_append, none_all, first_some, spot}
 use Rattle.rules.specs.declared.tables.Line.{Line}
@@ -9,6 +9,7 @@ use Rattle.rules.specs.declared.sheet.Mode.{Mode}
 use Rattle.rules.specs.declared.sheet.Mode.TheVariants.{Checked}
 use Rattle.rules.specs.declared.sheet.Reading.{Reading}
 use Rattle.rules.specs.declared.answers.Refusal.{Refusal}
+use Rattle.rules.specs.declared.answers.Answer.{Answer}
 use Rattle.rules.specs.declared.answers.Answer.TheVariants as answer
 use Rattle.rules.specs.Stores.{Store, session_at, with_finds, memo_full, ledger_full}
 use Rattle.rules.specs.Outcomes.{Told, Outcome}
@@ -27,26 +28,17 @@ use Rattle.cells.proofs.Traces.{above_is}
 use Rattle.law.proofs.Steps.{lent_own, session_ok}
 use Rattle.law.proofs.Lines.{end_ledger}
 
-no_row : {R A : Type 0} (e : Refusal) (row : Option R) → ◌≡◌ {A = Told R} (Err e) (Ok (answer.Row row)) → A
-no_row e row p = absurd (let z : ◌≡◌ {A = ℕ} 0 1 = cc in omega arith)
+no_answer : {R A : Type 0} (e : Refusal) (v : Answer R) → ◌≡◌ {A = Told R} (Err e) (Ok v) → A
+no_answer e v p = absurd cc
 
 same_row : {R : Type 0} (a c : Option R) → ◌≡◌ {A = Told R} (Ok (answer.Row a)) (Ok (answer.Row c)) → c ≡ a
 same_row a c p = let q : a ≡ c = cc in sym q
 
-no_was : {R A : Type 0} (e : Refusal) (was : Bool) → ◌≡◌ {A = Told R} (Err e) (Ok (answer.Was was)) → A
-no_was e was p = absurd (let z : ◌≡◌ {A = ℕ} 0 1 = cc in omega arith)
-
 same_was : {R : Type 0} (a c : Bool) → ◌≡◌ {A = Told R} (Ok (answer.Was a)) (Ok (answer.Was c)) → c ≡ a
 same_was a c p = let q : a ≡ c = cc in sym q
 
-no_at : {R A : Type 0} (e : Refusal) (n : ℕ) → ◌≡◌ {A = Told R} (Err e) (Ok (answer.At n)) → A
-no_at e n p = absurd (let z : ◌≡◌ {A = ℕ} 0 1 = cc in omega arith)
-
 same_at : {R : Type 0} (a c : ℕ) → ◌≡◌ {A = Told R} (Ok (answer.At a)) (Ok (answer.At c)) → c ≡ a
 same_at a c p = let q : a ≡ c = cc in sym q
-
-or_last : (x y : Bool) → y ≡ true → (x || y) ≡ true
-or_last x y e = grind arith
 
 there : (x y : Bool) → x ≡ true → (x && not y) ≡ false → y ≡ true
 there x y a b = grind arith
@@ -64,7 +56,7 @@ module _ {K : Type 0} (number : K → ℕ) where
   lined lines m s key c =
       cond_both (is_checked m && not (any (line_for number s (number key)) lines)) _ _
       (λ (z : List (Line K)). any (line_for number s (number key)) z ≡ true)
-      (λ _. any_append (line_for number s (number key)) lines _ ∙ or_last _ _ own)
+      (λ _. any_append (line_for number s (number key)) lines _ ∙ or_right _ _ own)
       (λ f. there (is_checked m) (any (line_for number s (number key)) lines) c f)
     where
       own : any (line_for number s (number key)) (one (record { session = s; key = key })) ≡ true
@@ -94,8 +86,8 @@ module _ {K R : Type 0} (number : K → ℕ) where
 
     pub read_tells : (key : K) → ReadTells key (read_rule number σ.lengths σ s key)
     read_tells key = lent_own (ReadTells key) _ σ _ _
-        (session_ok (ReadTells key) σ _ s _ (λ row p. no_row _ row p) (λ row p. no_row _ row p) (λ r l e.
-        cond_both (new_line number σ r.mode s (number key) && ledger_full σ) _ _ (ReadTells key) (λ _ row p. no_row _ row p)
+        (session_ok (ReadTells key) σ _ s _ (λ row p. no_answer _ _ p) (λ row p. no_answer _ _ p) (λ r l e.
+        cond_both (new_line number σ r.mode s (number key) && ledger_full σ) _ _ (ReadTells key) (λ _ row p. no_answer _ _ p)
         (λ _ row p. (same_row _ row p ∙ sees r (number key) e, lined number σ.ledger r.mode s key (its_mode r e)))))
 
     abbrev pub DropTells : K → Outcome K R → Type 0
@@ -110,13 +102,13 @@ module _ {K R : Type 0} (number : K → ℕ) where
 
     pub drop_tells : (key : K) → DropTells key (drop_rule number σ.lengths σ s key)
     drop_tells key = lent_own (DropTells key) _ σ _ _
-        (session_ok (DropTells key) σ _ s _ (λ was p. no_was _ was p) (λ was p. no_was _ was p) (λ r l e.
-        cond_both (conflict number σ s r.time (number key)) _ _ (DropTells key) (λ _ was p. no_was _ was p) (λ free.
-        cond_both (new_line number σ r.mode s (number key) && ledger_full σ) _ _ (DropTells key) (λ _ was p. no_was _ was p) (λ _.
+        (session_ok (DropTells key) σ _ s _ (λ was p. no_answer _ _ p) (λ was p. no_answer _ _ p) (λ r l e.
+        cond_both (conflict number σ s r.time (number key)) _ _ (DropTells key) (λ _ was p. no_answer _ _ p) (λ free.
+        cond_both (new_line number σ r.mode s (number key) && ledger_full σ) _ _ (DropTells key) (λ _ was p. no_answer _ _ p) (λ _.
         cond_both (any (hot_own number s (number key)) σ.hot) _ _ (DropTells key)
         (λ own was p. (same_was true was p ∙ own_seen r key e free own, lined number σ.ledger r.mode s key (its_mode r e)))
         (λ _. cond_both (wants_notice number σ (number key) (looked number σ s r.time (number key)).seen && memo_full σ) _ _ (DropTells key)
-        (λ _ was p. no_was _ was p)
+        (λ _ was p. no_answer _ _ p)
         (λ _ was p. (
           same_was _ was p ∙ ap is_some (sees r (number key) e),
           subst (λ (z : List (Line K)). any (line_for number s (number key))
@@ -147,10 +139,10 @@ module _ {K R : Type 0} (number : K → ℕ) where
 
     pub commit_tells : CommitTells (commit_rule number σ.lengths σ s)
     commit_tells = lent_own CommitTells _ σ _ _
-        (session_ok CommitTells σ _ s _ (λ n p. no_at _ n p) (λ n p. no_at _ n p) (λ r l e.
+        (session_ok CommitTells σ _ s _ (λ n p. no_answer _ _ p) (λ n p. no_answer _ _ p) (λ r l e.
         cond_both (not (has_marks σ s)) _ _ CommitTells (λ _ n p. inl (same_at 0 n p)) (λ _.
-        cond_both (stale number σ r.mode s r.time) _ _ CommitTells (λ _ n p. no_at _ n p) (λ st.
-        cond_both (leb 4000000000 σ.clock) _ _ CommitTells (λ _ n p. no_at _ n p)
+        cond_both (stale number σ r.mode s r.time) _ _ CommitTells (λ _ n p. no_answer _ _ p) (λ st.
+        cond_both (leb 4000000000 σ.clock) _ _ CommitTells (λ _ n p. no_answer _ _ p)
         (λ _ n p. inr (
           same_at _ n p ∙ ap (λ c. c + 1) w.clock,
           fresh_line r e (unstale (is_checked r.mode) (any (stale_line number σ s r.time) σ.ledger) (its_mode r e) st),

@@ -80,7 +80,7 @@ module _ {R : Type 0} where
     pub reads : (s : ℕ) (y : Turn R) → T.turn s ≡ Some y → y.read ≤ T.clock
 
   pub past_fresh : (c : ℕ) → Past (fresh c)
-  past_fresh c = record { stamps = tt; reads = λ s y e. absurd (let z : ◌≡◌ {A = ℕ} 0 1 = cc in omega arith) }
+  past_fresh c = record { stamps = tt; reads = λ s y e. absurd cc }
 
   -- what is shown past all stamps is what is shown at the clock
   pub shown_past : (cs : List (Commit R)) (c t k : ℕ) → All (λ x. x.stamp ≤ c) cs → c ≤ t → shown cs t k ≡ shown cs c k
@@ -94,7 +94,7 @@ module _ {R : Type 0} where
 
   read_of_write : (o : Option (Turn R)) (k : ℕ) (w : Option (Option R)) (c : ℕ)
       → ((y : Turn R) → o ≡ Some y → y.read ≤ c) → (y : Turn R) → wrote o k w ≡ Some y → y.read ≤ c
-  read_of_write None k w c f y e = absurd (let z : ◌≡◌ {A = ℕ} 0 1 = cc in omega arith)
+  read_of_write None k w c f y e = absurd cc
   read_of_write (Some x) k w c f y e =
       let g = f x refl in
       let h : record { mode = x.mode; read = x.read; writes = upd x.writes k w } ≡ y = cc in
@@ -109,7 +109,7 @@ module _ {R : Type 0} where
   }
 
   none_of : (y : Turn R) {A : Type 0} → ◌≡◌ {A = Option (Turn R)} None (Some y) → A
-  none_of y e = absurd (let z : ◌≡◌ {A = ℕ} 0 1 = cc in omega arith)
+  none_of y e = absurd cc
 
   past_close : (T : History R) (s : ℕ) → Past T → Past (closes T s)
   past_close T s p = record {

@@ -57,7 +57,7 @@ DoneBy c x y = ((s : ℕ) → (begin_marked x s || end_marked y s) ≡ false) ×
 
 -- such an end is past at c, if it is not open
 ended_past : (c x : ℕ) (y : Option Moment) → DoneBy c (moment.Stamp x) y → open_end y ≡ false → end_past y c ≡ true
-ended_past c x None d ends = absurd (let z : ◌≡◌ {A = ℕ} 0 1 = cc in omega arith)
+ended_past c x None d ends = absurd cc
 ended_past c x (Some (moment.Stamp n)) d ends = let low = d.1 in grind (arith, nat_tests)
 ended_past c x (Some (moment.Mark m)) d ends = absurd (both_ways (eqb m m) (d.0 m) (eq-eqb m m refl))
 
@@ -85,8 +85,8 @@ no_times (x ∷ xs) shut = ap (λ z. lesser z.reading (least_time xs)) (shut 0) 
 
 bears_none : (mark : MoveMark) (tag : ℕ) → unmoved mark ≡ true → bears mark tag ≡ false
 bears_none Unmoved tag h = refl
-bears_none (Chosen t) tag h = absurd (let z : ◌≡◌ {A = ℕ} 0 1 = cc in omega arith)
-bears_none (Copied t) tag h = absurd (let z : ◌≡◌ {A = ℕ} 0 1 = cc in omega arith)
+bears_none (Chosen t) tag h = absurd cc
+bears_none (Copied t) tag h = absurd cc
 
 module _ {K R : Type 0} where
   pub record Resting (σ : Store K R) : Type 0 where

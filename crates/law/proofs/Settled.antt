@@ -1,7 +1,6 @@
 -- With no session open and no row on the move, sweeps empty the memo and a collect leaves the single table's rows.
 use Rattle.std.proofs.Common.{◌≡◌, ℕ, zero, suc, ◌*◌, ◌≤◌, Bool, true, false, not, ◌&&◌, eqb, List, [], ◌∷◌, ◌++◌, length, replicate, sym, refl, ap, ◌∙◌, subst, arith, length-append, None, Some, Option}
 use Rattle.std.specs.List.{AllByRecursion as All}
-use Rattle.std.proofs.ByRecursion.{all_kept_by}
 use Rattle.std.proofs.lemmas.Bool.{both_ways, and_from, eq-eqb, le-leb, not-true, or_parts}
 use Rattle.std.proofs.lemmas.Bool.Decides.{nat_tests}
 use Rattle.rules.specs.declared.times.Moment.{Moment}
@@ -12,11 +11,12 @@ use Rattle.rules.specs.Moving.{unmoved, row_stays, collect_rule}
 use Rattle.rules.specs.Stores.{Store, closed, session_at, with_hot, horizon_of}
 use Rattle.rules.specs.Times.{end_past}
 use Rattle.slots.specs.Lists.{any, first, each, kept, one, one_if, list_of}
-use Rattle.slots.proofs.Folds.{none_all, all_none, all_both, all_then, all_every, each_same, each_each}
+use Rattle.slots.proofs.Folds.{all_both, all_then, all_every, each_same, each_each}
 use Rattle.slots.proofs.Edits.{kept_passes}
 use Rattle.versions.specs.History.{History, shown, fresh}
 use Rattle.versions.proofs.Versions.{Version, plain_begun, plain_ended, v_plain, rows}
 use Rattle.versions.proofs.Rows.{rows_append}
+use Rattle.cells.proofs.Found.{none_of_kept}
 use Rattle.cells.proofs.Beginning.{whole_opened}
 use Rattle.cells.proofs.Collecting.{whole_collect}
 use Rattle.cells.proofs.Cells.{Whole, hot_version, cold_version, hot_part, cold_part}
@@ -44,11 +44,6 @@ module _ {R : Type 0} where
   unfolding each
   row_if p true v h = rw h
   row_if p false v h = refl
-
--- none of a part passes where none passes
-none_of_kept : {X : Type 0} (p q : X → Bool) (xs : List X) → any p xs ≡ false → any p (kept q xs) ≡ false
-unfolding kept
-none_of_kept p q xs none = all_none p (kept q xs) (all_kept_by q _ xs (none_all p xs none))
 
 module _ {K R : Type 0} (number : K → ℕ) where
   -- a store at rest with no notices, whose hot rows have no end at or below the clock: what it holds is shown now

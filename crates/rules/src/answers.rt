@@ -59,7 +59,8 @@ pub enum Swept {
     NoneDue,
 }
 
-// What a call answers that is not refused: a call tells a Result<Answer<R>, Refusal>.
+// What a call answers where it is served. One type for all twelve calls, so that a run can be a list of calls, each with its
+// Result<Answer<R>, Refusal>.
 #[derive(Clone, Copy, Debug, PartialEq, Eq)]
 pub enum Answer<R> {
     // begin, put, abandon, copy, settle, give-up, collect

@@ -5,7 +5,7 @@ use crate::sheet::Sheet;
 use crate::tables::{HotRow, Line, Notice};
 
 impl Sheet {
-    // Whether the lent tables have the opening's lengths.
+    // Whether the lent tables have the opening's lengths. They come one by one: a call borrows only some of them to change.
     pub fn is_lent<K, R>(
         &self,
         hot: &[HotRow<K, R>],

@@ -27,7 +27,7 @@ pub fn layer_inside(refusal: ColdRefusal) -> Layer
 }
 
 impl Refusal {
-    // The number that a refusal tells.
+    // The number that a refusal tells. A discriminant can't be it: the two of a cold store's are in one variant.
     pub fn number(self) -> u8
         ensures { result ≡ number_of self }
     {

@@ -19,7 +19,8 @@ pub struct Session {
     pub reading: Option<Reading>,
 }
 
-// The sheet of a store. The first `used` slots of each lent table are its list, and what lies past them means nothing.
+// The sheet of a store. The first `used` slots of each lent table are its list, and what lies past them means nothing. There
+// is no heap: the tables are lent one by one, as slices of a fixed length, so the counts of their lists stand here.
 #[derive(Drop)]
 pub struct Sheet {
     pub sessions: [Session; 64],

@@ -47,7 +47,8 @@ pub enum Kind {
     X,
 }
 
-// A notice about a cold entry. A begin that is not used is 1, an end that is not used is open.
+// A notice about a cold entry. A begin that is not used is 1, an end that is not used is open. Both stand beside the kind and
+// not in it, since they stay as they were when a notice is emptied or settled.
 #[derive(Clone, Copy, Debug, PartialEq, Eq)]
 pub struct Notice<K> {
     pub key: K,

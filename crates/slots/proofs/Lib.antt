@@ -4,3 +4,4 @@ pub mod Few
 pub mod Hits
 pub mod Slots
 pub mod Loops
+pub mod Used

@@ -1,8 +1,7 @@
-ghost use Rattle.std.specs.Prelude.{◌≡◌, ◌≤◌, length, take, slice_set};
+ghost use Rattle.std.specs.Prelude.{◌≡◌, ◌≤◌, Bool, length, take, slice_set};
 ghost use Rattle.std.specs.List.{remove};
+ghost use Rattle.slots.specs.Calls.{Decides};
 ghost use Rattle.slots.specs.Lists.{kept, appended, count_with, count_without};
-
-use crate::search::Test;
 
 // Each of these answers the new count.
 
@@ -28,25 +27,22 @@ pub fn take_out<T: Copy>(slots: &mut [T], used: usize, at: usize) -> usize
     if at >= end {
         return end;
     }
-    let mut i = at;
-    while i + 1 < end {
-        slots[i] = slots[i + 1];
-        i += 1;
-    }
+    slots.copy_within(at + 1..end, at);
     end - 1
 }
 
 // Keeps the elements that pass, in their order.
-pub fn retain<T: Copy, P: Test<T>>(slots: &mut [T], used: usize, test: &P) -> usize
+pub fn retain<T: Copy, P: Fn(&T) -> bool>(slots: &mut [T], used: usize, test: P) -> usize
+    requires { P.IsAlwaysCallable test }
     ensures within { result ≤ used }
     ensures fits { result ≤ length slots.old }
-    ensures list { take result slots.new ≡ kept (P.Test.passes test.now) (take used slots.old) }
+    ensures list { (passes : T → Bool) → Decides (P.post test) passes → take result slots.new ≡ kept passes (take used slots.old) }
 {
     let end = used.min(slots.len());
     let mut n = 0;
     for i in 0..end {
         let x = slots[i];
-        let keep = test.passes(&x);
+        let keep = test(&x);
         if keep {
             slots[n] = x;
             n += 1;

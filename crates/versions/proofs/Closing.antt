@@ -1,12 +1,12 @@
 -- A session closes: what commit and abandon have in common. The sessions left are `upd turn s None`.
 use Rattle.std.proofs.Common.{◌≡◌, ℕ, ◌≤◌, false, ◌&&◌, eqb, List, [], is_some, Some, None, Option, sym, refl, ap, ◌∙◌, inl, inr}
+use Rattle.std.proofs.lemmas.Option.{none-some}
 use Rattle.std.specs.List.{AllByRecursion as All}
 use Rattle.std.proofs.lemmas.Bool.{cases_Bool, eqb-true, eqb-false}
 use Rattle.slots.specs.Lists.{any, list_of}
 use Rattle.versions.specs.History.{Commit, Turn, shown, upd}
 use Rattle.versions.proofs.Versions.{Version, v_plain, v_begun, v_ended, v_above, VShaped, rows}
 use Rattle.versions.proofs.Versions.{put_of, wrote_above, read_of, writes_of, had_at, Rel, Tidy}
-use Rattle.versions.proofs.Rows.{never_both}
 use Rattle.versions.proofs.Same.{SameAt, tidy_same}
 use Rattle.versions.proofs.Marks.{no_other_write}
 
@@ -17,10 +17,10 @@ module _ {R : Type 0} {h : ℕ} {cs : List (Commit R)} {next : ℕ → Option (T
   tidy_unwritten past low = record {
     past = past;
     low = low;
-    lone = λ m u x y p q. absurd (never_both (none m) p);
-    newest = λ m x p. absurd (never_both (none m) p);
-    dropped = λ m p. absurd (never_both (none m) p);
-    reads = λ m x p. absurd (never_both (none m) p);
+    lone = λ m u x y p q. absurd (none-some _ (sym (none m) ∙ p));
+    newest = λ m x p. absurd (none-some _ (sym (none m) ∙ p));
+    dropped = λ m p. absurd (none-some _ (sym (none m) ∙ p));
+    reads = λ m x p. absurd (none-some _ (sym (none m) ∙ p));
   }
 
   pub rel_unwritten : {V : List (Version R)}
@@ -31,7 +31,7 @@ module _ {R : Type 0} {h : ℕ} {cs : List (Commit R)} {next : ℕ → Option (T
       → All VShaped V → Rel h cs next k V
   rel_unwritten plain begun ended stamps shaped = record {
     plain = plain;
-    mine = λ m x p. absurd (never_both (none m) p);
+    mine = λ m x p. absurd (none-some _ (sym (none m) ∙ p));
     begun = λ m. begun m ∙ ap (λ x. list_of (put_of x)) (sym (none m));
     ended = λ m. ended m ∙ ap (λ x. is_some x && had_at cs next m k) (sym (none m));
     stamps = stamps;
@@ -50,7 +50,7 @@ module _ {R : Type 0} {cs ds : List (Commit R)} {turn : ℕ → Option (Turn R)}
       | inr other ↦ rw other
     ];
     reads_same = λ m w wrote. elim (cases_Bool (eqb m s)) [
-      | inl it ↦ absurd (never_both (ap (λ z. writes_of turn z k) (eqb-true m s it) ∙ none) wrote)
+      | inl it ↦ absurd (none-some _ (sym (ap (λ z. writes_of turn z k) (eqb-true m s it) ∙ none) ∙ wrote))
       | inr other ↦ rw other
     ];
   }
@@ -74,6 +74,6 @@ module _ {R : Type 0} {h c : ℕ} {cs : List (Commit R)} {turn : ℕ → Option 
       go : (o : Option (Option R)) → writes_of turn s k ≡ o → Tidy h' c' ds (upd turn s None) k
       go None none =
           let others : (m : ℕ) (w : Option R) → writes_of turn m k ≡ Some w → h' ≤ read_of turn m =
-          λ m w p. reads m w p (λ it. never_both (ap (λ z. writes_of turn z k) it ∙ none) p) in
+          λ m w p. reads m w p (λ it. none-some _ (sym (ap (λ z. writes_of turn z k) it ∙ none) ∙ p)) in
           tidy_same (same none) low later others past tidy
       go (Some w) wrote = tidy_unwritten (none_left w wrote) past low

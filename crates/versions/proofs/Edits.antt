@@ -1,6 +1,7 @@
 -- The four ways in which a session's write changes the versions of a key: a new version, another row in its own version,
 -- its own version taken out, and its mark as the end of a version that it sees.
 use Rattle.std.proofs.Common.{◌≡◌, ℕ, ◌≤◌, Bool, true, false, cond, ◌&&◌, ◌||◌, List, [], ◌∷◌, ◌++◌, is_some, Some, None, Option, sym, refl, ap, ◌∙◌, append-nil, arith}
+use Rattle.std.proofs.lemmas.Option.{none-some}
 use Rattle.std.proofs.lemmas.Bool.{eqb-true, eq-eqb, ne_eqb}
 use Rattle.std.proofs.lemmas.Bool.Decides.{nat_tests}
 use Rattle.rules.specs.declared.times.Moment.{Moment}
@@ -11,7 +12,7 @@ use Rattle.slots.proofs.Folds.{any_append, all_join}
 use Rattle.versions.specs.History.{Commit, Turn, shown}
 use Rattle.versions.proofs.Versions.{Version, Shaped, v_plain, v_sees, v_begun, v_ended, v_above}
 use Rattle.versions.proofs.Versions.{VShaped, rows, put_of, read_of, writes_of, had_at, Rel}
-use Rattle.versions.proofs.Rows.{never_both, rows_append}
+use Rattle.versions.proofs.Rows.{rows_append}
 use Rattle.versions.proofs.Marks.{NoMark, no_mark}
 use Rattle.versions.proofs.Seeing.{CalmFor, sees_plain, plain_reader, sees_later}
 use Rattle.versions.proofs.OneVersion.{any_at, all_at, rows_some, rows_without, rows_without_one, any_without}
@@ -38,7 +39,7 @@ module _ (R : Type 0) where
 
   dropping_is : (had : Bool) (x : Option R) → dropping had ≡ Some x → x ≡ None
   dropping_is true x p = cc
-  dropping_is false x p = absurd (never_both refl p)
+  dropping_is false x p = absurd (none-some _ p)
 
   dropping_puts_none : (had : Bool) → list_of (put_of (dropping had)) ≡ []
   dropping_puts_none true = refl
@@ -48,16 +49,15 @@ module _ (R : Type 0) where
 seen_is : (s t : ℕ) (x : Moment) (y : Option Moment) → (foreign_begin x s t || foreign_end y s t) ≡ false → begin_marked x s ≡ false
     → sees x y s t ≡ true → (n : ℕ) × (x ≡ moment.Stamp n) × (y ≡ None)
 seen_is s t (moment.Stamp n) None calm other seen = (n, refl, refl)
-seen_is s t (moment.Stamp n) (Some (moment.Stamp m)) calm other seen = absurd (let z : ◌≡◌ {A = ℕ} 0 1 = grind (arith, nat_tests) in omega arith)
-seen_is s t (moment.Stamp n) (Some (moment.Mark m)) calm other seen = absurd (let z : ◌≡◌ {A = ℕ} 0 1 = grind (arith, nat_tests) in omega arith)
-seen_is s t (moment.Mark n) y calm other seen = absurd (let z : ◌≡◌ {A = ℕ} 0 1 = grind (arith, nat_tests) in omega arith)
+seen_is s t (moment.Stamp n) (Some (moment.Stamp m)) calm other seen = absurd (grind (arith, nat_tests))
+seen_is s t (moment.Stamp n) (Some (moment.Mark m)) calm other seen = absurd (grind (arith, nat_tests))
+seen_is s t (moment.Mark n) y calm other seen = absurd (grind (arith, nat_tests))
 
 -- a version that s began has its mark and is open
 own_is : (s : ℕ) (x : Moment) (y : Option Moment) → Shaped x y → begin_marked x s ≡ true → (x ≡ moment.Mark s) × (y ≡ None)
-own_is s (moment.Stamp n) y shaped own = absurd (let z : ◌≡◌ {A = ℕ} 0 1 = cc in omega arith)
+own_is s (moment.Stamp n) y shaped own = absurd cc
 own_is s (moment.Mark n) None shaped own = (ap moment.Mark (eqb-true n s own), refl)
-own_is s (moment.Mark n) (Some (moment.Stamp m)) shaped own = elim shaped [ ]
-own_is s (moment.Mark n) (Some (moment.Mark m)) shaped own = elim shaped [ ]
+own_is s (moment.Mark n) (Some x) shaped own = elim shaped [ ]
 
 -- a key of which the session sees nothing
 module _ {R : Type 0} {h c : ℕ} {cs : List (Commit R)} {turn : ℕ → Option (Turn R)} {k s : ℕ} {V : List (Version R)}
@@ -67,8 +67,7 @@ module _ {R : Type 0} {h c : ℕ} {cs : List (Commit R)} {turn : ℕ → Option 
   unshown None p none = refl
   unshown (Some q) p none = absurd (
       let shows = ready.rel.plain (read_of turn s) ready.from in
-      let z : ◌≡◌ {A = ℕ} 0 1 = cc in
-      omega arith)
+      cc)
 
   -- if it was there the session ended it
   ended_had : any (v_ended s) V ≡ had_at cs turn s k

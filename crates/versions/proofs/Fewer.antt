@@ -39,10 +39,10 @@ module _ {R : Type 0} (h : ℕ) where
   -- a version whose end is past
   pub fewer_past : (x : Moment) (y : Option Moment) (r : R) → Shaped x y → end_past y h ≡ true
       → Fewer h (one (record { begin = x; end = y; row = r })) []
-  fewer_past x None r shaped past = absurd (let z : ◌≡◌ {A = ℕ} 0 1 = cc in omega arith)
+  fewer_past x None r shaped past = absurd cc
   fewer_past (moment.Stamp n) (Some (moment.Stamp m)) r shaped past = gone n m r shaped (leb-true m h past) none
   fewer_past (moment.Mark s) (Some (moment.Stamp m)) r shaped past = elim shaped [ ]
-  fewer_past x (Some (moment.Mark m)) r shaped past = absurd (let z : ◌≡◌ {A = ℕ} 0 1 = cc in omega arith)
+  fewer_past x (Some (moment.Mark m)) r shaped past = absurd cc
 
   -- a test that tells neither
   record Blind (p : Version R → Bool) : Type 0 where

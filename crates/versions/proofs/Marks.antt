@@ -53,7 +53,7 @@ module _ {R : Type 0} where
 pub own_mark : (n s : ℕ) → ((m : ℕ) → (m ≡ s → ⊥) → eqb n m ≡ false) → n ≡ s
 own_mark n s f = elim (cases_eq n s) [
   | inl same ↦ same
-  | inr other ↦ absurd (let differs = f n other in let z : ◌≡◌ {A = ℕ} 0 1 = grind (arith, nat_tests) in omega arith)
+  | inr other ↦ absurd (let differs = f n other in grind (arith, nat_tests))
 ]
 
 module _ {R : Type 0} {h : ℕ} {cs : List (Commit R)} {turn : ℕ → Option (Turn R)} {k : ℕ} {V : List (Version R)}

@@ -1,14 +1,10 @@
 -- Laws of `rows` and `any` over lists of versions, and of options.
-use Rattle.std.proofs.Common.{◌≡◌, ℕ, Bool, true, false, List, [], ◌∷◌, ◌++◌, Some, None, Option, refl, ap, inl, inr, arith}
+use Rattle.std.proofs.Common.{◌≡◌, Bool, true, false, List, [], ◌∷◌, ◌++◌, Some, None, Option, refl, ap, inl, inr, arith}
 use Rattle.std.specs.List.{AllByRecursion as All}
 use Rattle.std.proofs.lemmas.Bool.{cases_Bool}
 use Rattle.slots.specs.Lists.{any, each, one_if}
 use Rattle.slots.proofs.Folds.{all_then, each_append, each_same}
 use Rattle.versions.proofs.Versions.{Version, rows}
-
--- no option is None and has a value
-pub never_both : {X : Type 0} {o : Option X} {x : X} → o ≡ None → o ≡ Some x → ⊥
-never_both p q = let z : ◌≡◌ {A = ℕ} 0 1 = cc in omega arith
 
 -- an option that has no value is None
 pub none_unless : {X : Type 0} (o : Option X) → ((x : X) → o ≡ Some x → ⊥) → o ≡ None
@@ -42,12 +38,12 @@ module _ {R : Type 0} where
   unfolding each
   none_rows p [] h = tt
   none_rows p (v ∷ xs) h = elim (cases_Bool (p v)) [
-    | inl y ↦ absurd (let z : ◌≡◌ {A = ℕ} 0 1 = cc (rw y at h) in omega arith)
+    | inl y ↦ absurd (cc (rw y at h))
     | inr y ↦ (y, none_rows p xs (rw y at h))
   ]
 
   -- where there is a row, a version passes
   pub rows_any : (p : Version R → Bool) (xs : List (Version R)) (r : R) → rows p xs ≡ r ∷ [] → any p xs ≡ true
   unfolding any each
-  rows_any p [] r h = absurd (let z : ◌≡◌ {A = ℕ} 0 1 = cc in omega arith)
+  rows_any p [] r h = absurd cc
   rows_any p (v ∷ xs) r h = elim (cases_Bool (p v)) [ inl y ↦ rw y | inr y ↦ rw y (rows_any p xs r (rw y at h)) ]

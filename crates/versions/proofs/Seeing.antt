@@ -29,8 +29,7 @@ module _ (s t : ℕ) where
 
   ended_plain : (y : Option Moment) → end_marked y s ≡ false → ended y s t ≡ plain_ended t y
   ended_plain None none = refl
-  ended_plain (Some (moment.Stamp n)) none = refl
-  ended_plain (Some (moment.Mark n)) none = none
+  ended_plain (Some x) none = begun_plain x none
 
   -- with nothing foreign they are at a later time as they were
   begun_later : (u : ℕ) → t ≤ u → (x : Moment) → foreign_begin x s t ≡ false → begun x s u ≡ begun x s t
@@ -39,8 +38,7 @@ module _ (s t : ℕ) where
 
   ended_later : (u : ℕ) → t ≤ u → (y : Option Moment) → foreign_end y s t ≡ false → ended y s u ≡ ended y s t
   ended_later u le None calm = refl
-  ended_later u le (Some (moment.Stamp n)) calm = grind (arith, nat_tests)
-  ended_later u le (Some (moment.Mark n)) calm = refl
+  ended_later u le (Some x) calm = begun_later u le x calm
 
   -- nothing foreign: no other mark, and no stamp above t
   begin_own : (x : Moment) → foreign_begin x s t ≡ false → OnlyBegin s x
@@ -49,8 +47,7 @@ module _ (s t : ℕ) where
 
   end_own : (y : Option Moment) → foreign_end y s t ≡ false → OnlyEnd s y
   end_own None calm m ne = refl
-  end_own (Some (moment.Stamp n)) calm m ne = refl
-  end_own (Some (moment.Mark n)) calm m ne = grind (arith, nat_tests)
+  end_own (Some x) calm m ne = begin_own x calm m ne
 
   begin_low : (x : Moment) → foreign_begin x s t ≡ false → begin_above x t ≡ false
   begin_low (moment.Stamp n) calm = calm
@@ -58,8 +55,7 @@ module _ (s t : ℕ) where
 
   end_low : (y : Option Moment) → foreign_end y s t ≡ false → end_above y t ≡ false
   end_low None calm = refl
-  end_low (Some (moment.Stamp n)) calm = calm
-  end_low (Some (moment.Mark n)) calm = refl
+  end_low (Some x) calm = begin_low x calm
 
   -- and the other way round
   begin_calm : (x : Moment) → OnlyBegin s x → begin_above x t ≡ false → foreign_begin x s t ≡ false
@@ -68,8 +64,7 @@ module _ (s t : ℕ) where
 
   end_calm : (y : Option Moment) → OnlyEnd s y → end_above y t ≡ false → foreign_end y s t ≡ false
   end_calm None only low = refl
-  end_calm (Some (moment.Stamp n)) only low = low
-  end_calm (Some (moment.Mark n)) only low = let own = own_mark n s only in grind (arith, nat_tests)
+  end_calm (Some x) only low = begin_calm x only low
 
 -- versions
 module _ {R : Type 0} (s t : ℕ) where

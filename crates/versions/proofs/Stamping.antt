@@ -28,8 +28,7 @@ module _ (s c : ℕ) where
 
   end_kept : (y : Option Moment) → end_marked y s ≡ false → stamp_end s c y ≡ y
   end_kept None none = refl
-  end_kept (Some (moment.Stamp n)) none = refl
-  end_kept (Some (moment.Mark n)) none = rw none
+  end_kept (Some x) none = ap Some (begin_kept x none)
 
   -- for a reader without marks before the stamp
   begun_early : (t : ℕ) → t < c → (x : Moment) → plain_begun t (stamp_begin s c x) ≡ plain_begun t x
@@ -38,8 +37,7 @@ module _ (s c : ℕ) where
 
   ended_early : (t : ℕ) → t < c → (y : Option Moment) → plain_ended t (stamp_end s c y) ≡ plain_ended t y
   ended_early t lt None = refl
-  ended_early t lt (Some (moment.Stamp n)) = refl
-  ended_early t lt (Some (moment.Mark n)) = grind (arith, nat_tests)
+  ended_early t lt (Some x) = begun_early t lt x
 
   -- and from it on, if there is no other session's mark
   begun_late : (t : ℕ) → c ≤ t → (x : Moment) → OnlyBegin s x → plain_begun t (stamp_begin s c x) ≡ begun x s t
@@ -48,8 +46,7 @@ module _ (s c : ℕ) where
 
   ended_late : (t : ℕ) → c ≤ t → (y : Option Moment) → OnlyEnd s y → plain_ended t (stamp_end s c y) ≡ ended y s t
   ended_late t le None only = refl
-  ended_late t le (Some (moment.Stamp n)) only = refl
-  ended_late t le (Some (moment.Mark n)) only = let own = own_mark n s only in grind (arith, nat_tests)
+  ended_late t le (Some x) only = begun_late t le x only
 
   -- no mark is left then
   begin_unmarked : (x : Moment) → OnlyBegin s x → (m : ℕ) → begin_marked (stamp_begin s c x) m ≡ false
@@ -58,8 +55,7 @@ module _ (s c : ℕ) where
 
   end_unmarked : (y : Option Moment) → OnlyEnd s y → (m : ℕ) → end_marked (stamp_end s c y) m ≡ false
   end_unmarked None only m = refl
-  end_unmarked (Some (moment.Stamp n)) only m = refl
-  end_unmarked (Some (moment.Mark n)) only m = let own = own_mark n s only in grind (arith, nat_tests)
+  end_unmarked (Some x) only m = begin_unmarked x only m
 
   -- a mark becomes a stamp above t before the stamp, and from it on no stamp is new above t
   begin_above_early : (t : ℕ) → t < c → (x : Moment) → begin_marked x s ≡ true → begin_above (stamp_begin s c x) t ≡ true
@@ -68,8 +64,7 @@ module _ (s c : ℕ) where
 
   end_above_early : (t : ℕ) → t < c → (y : Option Moment) → end_marked y s ≡ true → end_above (stamp_end s c y) t ≡ true
   end_above_early t lt None its = grind (arith, nat_tests)
-  end_above_early t lt (Some (moment.Stamp n)) its = grind (arith, nat_tests)
-  end_above_early t lt (Some (moment.Mark n)) its = grind (arith, nat_tests)
+  end_above_early t lt (Some x) its = begin_above_early t lt x its
 
   begin_above_late : (t : ℕ) → c ≤ t → (x : Moment) → begin_above (stamp_begin s c x) t ≡ begin_above x t
   begin_above_late t le (moment.Stamp n) = refl
@@ -77,8 +72,7 @@ module _ (s c : ℕ) where
 
   end_above_late : (t : ℕ) → c ≤ t → (y : Option Moment) → end_above (stamp_end s c y) t ≡ end_above y t
   end_above_late t le None = refl
-  end_above_late t le (Some (moment.Stamp n)) = refl
-  end_above_late t le (Some (moment.Mark n)) = grind (arith, nat_tests)
+  end_above_late t le (Some x) = begin_above_late t le x
 
   -- the shape is kept, since no begin is above the clock d
   shaped_stamped : (d : ℕ) → d ≤ c → (x : Moment) (y : Option Moment)
@@ -90,8 +84,7 @@ module _ (s c : ℕ) where
     | inr other ↦ rw other tt
   ]
   shaped_stamped d le (moment.Mark n) None shaped low = elim (cases_Bool (eqb n s)) [ inl its ↦ rw its tt | inr other ↦ rw other tt ]
-  shaped_stamped d le (moment.Mark n) (Some (moment.Stamp m)) shaped low = elim shaped [ ]
-  shaped_stamped d le (moment.Mark n) (Some (moment.Mark m)) shaped low = elim shaped [ ]
+  shaped_stamped d le (moment.Mark n) (Some x) shaped low = elim shaped [ ]
 
 -- versions, stamped
 module _ {R : Type 0} where

@@ -28,10 +28,9 @@ module _ {R : Type 0} where
 -- ends, reopened
 module _ (s : ℕ) where
   -- an end without a mark of s stays as it is
-  end_kept : (y : Option Moment) → end_marked y s ≡ false → reopen s y ≡ y
+  pub end_kept : (y : Option Moment) → end_marked y s ≡ false → reopen s y ≡ y
   end_kept None none = refl
-  end_kept (Some (moment.Stamp n)) none = refl
-  end_kept (Some (moment.Mark n)) none = rw none
+  end_kept (Some x) none = rw none
 
   -- no reader without marks tells it, and stamps stay as they are
   ended_same : (t : ℕ) (y : Option Moment) → plain_ended t (reopen s y) ≡ plain_ended t y
@@ -55,8 +54,7 @@ module _ (s : ℕ) where
   shaped_reopened (moment.Stamp n) (Some (moment.Stamp m)) shaped = shaped
   shaped_reopened (moment.Stamp n) (Some (moment.Mark m)) shaped = elim (cases_Bool (eqb m s)) [ inl its ↦ rw its tt | inr other ↦ rw other tt ]
   shaped_reopened (moment.Mark n) None shaped = tt
-  shaped_reopened (moment.Mark n) (Some (moment.Stamp m)) shaped = elim shaped [ ]
-  shaped_reopened (moment.Mark n) (Some (moment.Mark m)) shaped = elim shaped [ ]
+  shaped_reopened (moment.Mark n) (Some x) shaped = elim shaped [ ]
 
 -- versions, undone
 module _ {R : Type 0} (s : ℕ) where
@@ -98,8 +96,7 @@ module _ {R : Type 0} (s : ℕ) where
           → (not (begin_marked x s) && (begin_above x t || end_above y t)) ≡ (begin_above x t || end_above y t)
       go (moment.Stamp n) y shaped = refl
       go (moment.Mark n) None shaped = grind arith
-      go (moment.Mark n) (Some (moment.Stamp m)) shaped = elim shaped [ ]
-      go (moment.Mark n) (Some (moment.Mark m)) shaped = elim shaped [ ]
+      go (moment.Mark n) (Some z) shaped = elim shaped [ ]
 
   -- no mark is left, if there is no other session's
   begun_left : (m : ℕ) (v : Version R) → OnlyMark s v → left (v_begun m) v ≡ false

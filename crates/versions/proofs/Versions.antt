@@ -21,8 +21,7 @@ plain_begun t (moment.Mark m) = false
 
 abbrev pub plain_ended : ℕ → Option Moment → Bool
 plain_ended t None = false
-plain_ended t (Some (moment.Stamp n)) = leb n t
-plain_ended t (Some (moment.Mark m)) = false
+plain_ended t (Some x) = plain_begun t x
 
 -- a marked begin has an open end, and no end's stamp is below its begin's
 abbrev pub Shaped : Moment → Option Moment → Type 0
@@ -30,8 +29,7 @@ Shaped (moment.Stamp n) None = Unit {0}
 Shaped (moment.Stamp n) (Some (moment.Stamp m)) = n ≤ m
 Shaped (moment.Stamp n) (Some (moment.Mark s)) = Unit {0}
 Shaped (moment.Mark s) None = Unit {0}
-Shaped (moment.Mark s) (Some (moment.Stamp m)) = ⊥
-Shaped (moment.Mark s) (Some (moment.Mark m)) = ⊥
+Shaped (moment.Mark s) (Some x) = ⊥
 
 module _ {R : Type 0} where
   -- tests of a version: seen at time t without marks, seen by session s with read time t

@@ -1,6 +1,7 @@
 -- A session writes a key: the frame that a put and a drop have in common. What is to be shown is how the versions change
 -- for the session itself; the rest follows, since nothing foreign stands on the key.
-use Rattle.std.proofs.Common.{◌≡◌, ℕ, ◌≤◌, true, false, ◌&&◌, List, is_some, Some, None, Option, sym, ap, ◌∙◌, subst, inl, inr, arith}
+use Rattle.std.proofs.Common.{◌≡◌, ℕ, ◌≤◌, true, false, ◌&&◌, List, is_some, Some, None, Option, sym, ap, ◌∙◌, subst, inl, inr}
+use Rattle.std.proofs.lemmas.Option.{none-some}
 use Rattle.std.specs.List.{AllByRecursion as All}
 use Rattle.std.proofs.lemmas.Bool.{cases_eq}
 use Rattle.slots.specs.Lists.{any, list_of}
@@ -8,7 +9,7 @@ use Rattle.slots.proofs.Folds.{all_none, all_then}
 use Rattle.versions.specs.History.{Commit, Turn, shown, turn_writes, turn_read}
 use Rattle.versions.proofs.Versions.{Version, v_plain, v_sees, v_begun, v_ended, v_above, VShaped, rows}
 use Rattle.versions.proofs.Versions.{put_of, wrote_above, read_of, writes_of, had_at, Rel, Tidy}
-use Rattle.versions.proofs.Rows.{none_unless, never_both, rows_same}
+use Rattle.versions.proofs.Rows.{none_unless, rows_same}
 use Rattle.versions.proofs.Marks.{v_marked, has_mark}
 use Rattle.versions.proofs.Seeing.{CalmFor, sees_later, calm_only, calm_low}
 
@@ -50,8 +51,7 @@ module _ {R : Type 0} {h c : ℕ} {cs : List (Commit R)} {turn : ℕ → Option 
       let marked = has_mark ready.rel ready.tidy m w wrote in
       let unmarked : any (v_marked m) V ≡ false =
       all_none _ V (all_then _ _ V ready.calm (λ v calm. let none = calm_only s time v calm m ne in rw (none.0, none.1))) in
-      let z : ◌≡◌ {A = ℕ} 0 1 = cc in
-      omega arith)
+      cc)
 
   pub none_since : wrote_above cs time k ≡ false
   none_since = sym (ready.rel.stamps time ready.from) ∙ all_none _ V (all_then _ _ V ready.calm (calm_low s time))
@@ -66,7 +66,7 @@ module _ {R : Type 0} {h c : ℕ} {cs : List (Commit R)} {turn : ℕ → Option 
 
     -- who has a write is s, and it is w
     only_writer : (m : ℕ) (x : Option R) → writes_of next m k ≡ Some x → m ≡ s
-    only_writer m x p = elim (cases_eq m s) [ inl it ↦ it | inr other ↦ absurd (never_both (no_other_next m other) p) ]
+    only_writer m x p = elim (cases_eq m s) [ inl it ↦ it | inr other ↦ absurd (none-some _ (sym (no_other_next m other) ∙ p)) ]
 
     its_write : (m : ℕ) (x : Option R) → m ≡ s → writes_of next m k ≡ Some x → w ≡ Some x
     its_write m x it p = sym wrote.its ∙ (ap (λ z. writes_of next z k) (sym it) ∙ p)

@@ -1,4 +1,4 @@
-use Rattle.std.proofs.Common.{◌≡◌, ℕ, false, refl, arith}
+use Rattle.std.proofs.Common.{false, refl}
 use Rattle.slots.specs.Lists.{any, first, at_first, kept, each}
 use Rattle.rules.specs.Horizon.{least_time}
 use Rattle.rules.specs.Looking.{walk}
@@ -36,7 +36,7 @@ returns c = (
                   refl,
                   (
                     _,
-                    (λ k. false, λ h e. absurd (let z : ◌≡◌ {A = ℕ} 0 1 = cc in omega arith), refl),
+                    (λ k. false, λ h e. absurd cc, refl),
                     (_, refl, (_, refl, (_, refl, (_, refl, (_, refl, (_, refl, refl)))))),
                   ),
                 ),

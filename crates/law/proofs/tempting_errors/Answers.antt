@@ -1,4 +1,4 @@
-use Rattle.std.proofs.Common.{◌≡◌, ℕ, true, false, ◌∷◌, ◌++◌, Some, None, refl, arith, Ok, Err}
+use Rattle.std.proofs.Common.{true, false, ◌∷◌, ◌++◌, Some, None, refl, Ok, Err}
 use Rattle.slots.specs.Lists.{any, first, at_first, kept, each}
 use Rattle.cold.specs.Cold.{put_in}
 use Rattle.rules.specs.Horizon.{least_time}
@@ -18,7 +18,7 @@ late_copy = (_, _, (_, refl, (_, refl, (_, refl, (_, refl, (_, refl, (_, refl, (
 
 late_copy_refused : ByRules (overtaken ++ (gets (call.Copy 1) (Err refusal.MoveOver) ∷ dropped_then None))
 unfolding Runs any first at_first kept each put_in least_time walk
-late_copy_refused = (_, (_, refl, (_, refl, (_, refl, (_, refl, (_, refl, (_, refl, (_, refl, (_, refl, (_, refl, (_, (λ k. false, λ h e. absurd (let z : ◌≡◌ {A = ℕ} 0 1 = cc in omega arith), refl), (_, refl, (_, refl, (_, refl, (_, refl, (_, refl, (_, refl, refl)))))))))))))))))
+late_copy_refused = (_, (_, refl, (_, refl, (_, refl, (_, refl, (_, refl, (_, refl, (_, refl, (_, refl, (_, refl, (_, (λ k. false, λ h e. absurd cc, refl), (_, refl, (_, refl, (_, refl, (_, refl, (_, refl, (_, refl, refl)))))))))))))))))
 
 forgotten_reads : WithStep two_begin (λ σ. read_of_seen 1 7 (read_of_seen 0 8 σ)) (two_list (Ok (answer.At 3)))
 unfolding Runs any first at_first kept each put_in least_time walk

@@ -3,6 +3,5 @@ use Rattle.slots.proofs.Hits.{hit_any}
 use Rattle.slots.proofs.search.any_of.Goals as goal
 
 pub returns : goal.returns
-returns g c =
-    c.is_some.ensures ∙ ap is_some c.find_first.ensures
-    ∙ hit_any (g.P.Test.passes c.args.test.now) (take c.args.used c.args.slots.now)
+returns g c p d =
+    c.is_some.ensures ∙ ap is_some (c.find_first.ensures p d) ∙ hit_any p (take c.args.used c.args.slots.now)

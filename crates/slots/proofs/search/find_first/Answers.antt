@@ -1,17 +1,19 @@
-use Rattle.std.proofs.Common.{arith}
+use Rattle.std.proofs.Common.{ap, ◌∙◌, arith}
+use Rattle.slots.specs.Lists.{hit}
 use Rattle.slots.proofs.Loops.{seek_here, seek_more, seek_all}
 use Rattle.slots.proofs.search.find_first.Goals as goal
 
-pub returns-then-passes : goal.returns-then-passes
-returns-then-passes g c =
-    seek_here (g.P.Test.passes c.args.test.now) c.args.slots.now c.args.used c.loop-i.i c.loop-i.invariant
-    c.index-slots-i.result (omega arith) c.index-slots-i.is c.if-passes.ensures
+pub returns-then-test : goal.returns-then-test
+returns-then-test g c p d =
+    seek_here p c.listed-list.result.now c.loop-at.at (c.loop-at.invariant p d) c.index-list-at.result c.loop-at-test.true c.index-list-at.is
+    (d _ _ c.if-test.ensures)
+    ∙ ap (hit p) c.listed-list.ensures
 
-pub loop-i-preserved : goal.loop-i-preserved
-loop-i-preserved g c =
-    seek_more (g.P.Test.passes c.args.test.now) c.args.slots.now c.args.used c.loop-i.i c.loop-i.invariant
-    c.index-slots-i.result (omega arith) c.index-slots-i.is c.if-passes.ensures
+pub loop-at-preserved : goal.loop-at-preserved
+loop-at-preserved g c p d =
+    seek_more p c.listed-list.result.now c.loop-at.at (c.loop-at.invariant p d) c.index-list-at.result c.loop-at-test.true c.index-list-at.is
+    (d _ _ c.if-test.ensures)
 
 pub returns : goal.returns
-returns g c =
-    seek_all (g.P.Test.passes c.args.test.now) c.args.slots.now c.args.used c.loop-i.i c.loop-i.invariant (omega arith)
+returns g c p d =
+    seek_all p c.listed-list.result.now c.loop-at.at (c.loop-at.invariant p d) (omega arith) ∙ ap (hit p) c.listed-list.ensures
