@@ -1,5 +1,4 @@
-ghost use Rattle.std.specs.Prelude.{◌≡◌, ℕ, ◌*◌, ◌/◌, true, ltb, [], IfOk, ◌≢◌, nat_lt, slice_index};
-ghost use Rattle.cold.specs.Cold.{found, in_order};
+ghost use Rattle.std.specs.Prelude.{◌≡◌, ℕ, ◌*◌, ◌/◌, ltb, [], IfOk, ◌≢◌, nat_lt, slice_index};
 ghost use Rattle.cold.specs.New.{refused_limit};
 ghost use Rattle.blocks.specs.Blocks.{seat_of, free_of, bytes_answer, put_bytes, removed_bytes};
 ghost use Rattle.blocks.specs.Cells.{entries_of};

@@ -1,4 +1,4 @@
-ghost use Rattle.std.specs.Prelude.{◌≡◌, ◌≤◌, [], not, filter, position, All, Any, MatchOption, IfSome, true, false, count_by, IsNone, IsSome, ℕ, ◌<◌, length, slice_index_or};
+ghost use Rattle.std.specs.Prelude.{◌≡◌, ◌≤◌, true, not, position, count_by, All, Any, IfSome, IsNone};
 ghost use Rattle.blocks.specs.Blocks.{cut, is_used, tag_of, has_key, has_own};
 
 use crate::block::{has_key, has_own, tag_of, used};

@@ -1,5 +1,5 @@
-ghost use Rattle.std.specs.Prelude.{◌≡◌, ◌≤◌, true, [], IfOk, vec_len, nat_lt};
-ghost use Rattle.cold.specs.Cold.{below_by, is_of, in_order};
+ghost use Rattle.std.specs.Prelude.{◌≡◌, ◌≤◌, [], IfOk, vec_len, nat_lt};
+ghost use Rattle.cold.specs.Cold.{below_by, is_of};
 ghost use Rattle.cold.specs.New.{refused_limit};
 ghost use Rattle.cold.specs.Sorted.{meant, table, place, seat};
 ghost use Rattle.cold.specs.Few.{few_meant};

@@ -35,6 +35,7 @@ impl From<AllocError> for NewStoreError {
 }
 
 // A set of entries, each a key, a tag and a row, with no key and tag twice.
+// Key and tag stay two parameters: in a find the tag is where to begin, and not a part of a name.
 pub trait ColdStore<K: Key, R: Copy> {
     // the entries by rising key number, then tag
     ghost entries: { Self → List (Entry R) };

@@ -1,4 +1,12 @@
-use Rattle.std.specs.Prelude.{ℕ, ◌%◌, min, max, Bool, cond, ◌&&◌, List, ◌==◌, nat_le, slice_index, slice_set}
+use Rattle.std.specs.Prelude.{ℕ, ◌%◌, min, max, Bool, cond, ◌&&◌, List, map, ◌==◌, nat_le, slice_index, slice_set}
+use Rattle.filter.specs.declared.band.Ends.{Ends}
+
+-- the lowest and the highest number of each remainder
+abbrev pub lows : List Ends → List ℕ
+lows es = map (λ e. e.low) es
+
+abbrev pub highs : List Ends → List ℕ
+highs es = map (λ e. e.high) es
 
 -- the ends of a number's remainder
 abbrev pub low_of : List ℕ → ℕ → ℕ

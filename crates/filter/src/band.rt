@@ -1,58 +1,57 @@
-ghost use Rattle.std.specs.Prelude.{◌≡◌, ℕ, min, max, false};
-ghost use Rattle.filter.specs.Band.{in_band, lows_with, highs_with, in_band_with};
+ghost use Rattle.std.specs.Prelude.{◌≡◌, ℕ, false};
+ghost use Rattle.filter.specs.Band.{lows, highs, in_band, lows_with, highs_with, in_band_with};
 
 use crate::Filter;
+
+// The lowest and the highest number of one remainder.
+#[derive(Clone, Copy)]
+struct Ends {
+    low: u64,
+    high: u64,
+}
 
 // For each remainder mod 64 the lowest and the highest number added. A number is admitted when it lies between those of its remainder, ends included.
 #[derive(Drop)]
 pub struct Band {
-    lows: [u64; 64],
-    highs: [u64; 64],
-}
-
-fn lower(a: u64, b: u64) -> u64
-    ensures { result ≡ min a b }
-{
-    if a < b { a } else { b }
-}
-
-fn higher(a: u64, b: u64) -> u64
-    ensures { result ≡ max a b }
-{
-    if a < b { b } else { a }
+    ends: [Ends; 64],
 }
 
 impl Band {
     // The lowest is above the highest everywhere, so no number is admitted.
     pub fn new() -> Band
-        ensures { (h : ℕ) → in_band result.lows result.highs h ≡ false }
+        ensures { (h : ℕ) → in_band (lows result.ends) (highs result.ends) h ≡ false }
     {
         Band {
-            lows: [u64::MAX; 64],
-            highs: [0; 64],
+            ends: [Ends {
+                low: u64::MAX,
+                high: 0,
+            }; 64],
         }
     }
 
     // Moves the ends of the number's remainder out to it. Of the other remainders the same numbers are admitted as before.
     pub fn widen(&mut self, number: u64)
-        ensures lows { self.new.lows ≡ lows_with self.old.lows number }
-        ensures highs { self.new.highs ≡ highs_with self.old.highs number }
+        ensures lows { lows self.new.ends ≡ lows_with (lows self.old.ends) number }
+        ensures highs { highs self.new.ends ≡ highs_with (highs self.old.ends) number }
         ensures admitted { (h : ℕ)
-            → in_band self.new.lows self.new.highs h
-            ≡ in_band_with self.old.lows self.old.highs number h }
+            → in_band (lows self.new.ends) (highs self.new.ends) h
+            ≡ in_band_with (lows self.old.ends) (highs self.old.ends) number h }
     {
         let at = (number % 64) as usize;
-        self.lows[at] = lower(self.lows[at], number);
-        self.highs[at] = higher(self.highs[at], number);
+        let Ends { low, high } = self.ends[at];
+        self.ends[at] = Ends {
+            low: low.min(number),
+            high: high.max(number),
+        };
     }
 }
 
 impl Filter for Band {
-    ghost admitted = { λ f h. in_band f.lows f.highs h };
+    ghost admitted = { λ f h. in_band (lows f.ends) (highs f.ends) h };
 
     fn admits(&self, number: u64) -> bool {
-        let at = (number % 64) as usize;
-        self.lows[at] <= number && number <= self.highs[at]
+        let Ends { low, high } = self.ends[(number % 64) as usize];
+        low <= number && number <= high
     }
 
     fn add(&mut self, number: u64) {

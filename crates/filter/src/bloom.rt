@@ -4,7 +4,8 @@ ghost use Rattle.filter.specs.Bloom.{places_of, bit_at, with_bit, in_bloom, with
 use crate::Filter;
 
 // The three places of a number, each below 4,096.
-#[derive(Clone, Copy)]
+// Not an array: each place has a rule of its own, and three lines say as much as a loop over them.
+#[derive(Clone, Copy, Debug, PartialEq, Eq)]
 pub struct ThreePlaces {
     pub first: usize,
     pub second: usize,

@@ -1,15 +1,33 @@
 use filter::Filter;
 use filter::band::Band;
-use filter::bloom::{Bloom, places};
+use filter::bloom::{Bloom, ThreePlaces, places};
 
 #[test]
 fn bloom_places(rt: HostRuntime) {
-    let p = places(4097);
-    assert_eq!(rt; (p.first, p.second, p.third), (1, 1, 2));
-    let q = places(5);
-    assert_eq!(rt; (q.first, q.second, q.third), (5, 0, 5));
-    let r = places(u64::MAX);
-    assert_eq!(rt; (r.first, r.second, r.third), (4095, 4095, 4094));
+    assert_eq!(rt;
+        places(4097),
+        ThreePlaces {
+            first: 1,
+            second: 1,
+            third: 2,
+        }
+    );
+    assert_eq!(rt;
+        places(5),
+        ThreePlaces {
+            first: 5,
+            second: 0,
+            third: 5,
+        }
+    );
+    assert_eq!(rt;
+        places(u64::MAX),
+        ThreePlaces {
+            first: 4095,
+            second: 4095,
+            third: 4094,
+        }
+    );
 }
 
 #[test]

@@ -5,4 +5,5 @@
 mod filters;
 #[cfg(test)]
 mod stores;
-pub mod turns;
+#[cfg(test)]
+mod turns;

@@ -6,18 +6,18 @@ use keys::listing::Listing;
 use keys::rows::ListingRow;
 use std::test::Fail;
 
+type Sorted = SortedStore<Listing, ListingRow>;
+
+type Blocks = BlockStore<Listing, ListingRow>;
+
 #[test]
 fn makes_agree(rt: HostRuntime) -> Result<(), Fail> {
-    let Ok(mut sorted) = SortedStore::<Listing, ListingRow>::new(rt.alloc(), 8) else {
-        return Err(Fail::new("no sorted store"));
-    };
-    let Ok(mut blocks) = BlockStore::<Listing, ListingRow>::new(rt.alloc(), 8) else {
-        return Err(Fail::new("no block store"));
-    };
+    let mut sorted = Sorted::new(rt.alloc(), 8)?;
+    let mut blocks = Blocks::new(rt.alloc(), 8)?;
     assert!(rt; scripted(&mut sorted, &mut blocks, 400));
-    assert!(rt; swept(&mut sorted, &mut blocks, Ask::Put));
-    assert!(rt; swept(&mut sorted, &mut blocks, Ask::Find));
-    assert!(rt; swept(&mut sorted, &mut blocks, Ask::Remove));
+    for ask in [Ask::Put, Ask::Find, Ask::Remove] {
+        assert!(rt; swept(&mut sorted, &mut blocks, ask));
+    }
     assert!(rt; is_empty(&sorted));
     assert!(rt; is_empty(&blocks));
     Ok(())
@@ -25,9 +25,7 @@ fn makes_agree(rt: HostRuntime) -> Result<(), Fail> {
 
 #[test]
 fn sorted_full_and_empty(rt: HostRuntime) -> Result<(), Fail> {
-    let Ok(mut sorted) = SortedStore::<Listing, ListingRow>::new(rt.alloc(), 8) else {
-        return Err(Fail::new("no sorted store"));
-    };
+    let mut sorted = Sorted::new(rt.alloc(), 8)?;
     assert!(rt; full_and_empty(&mut sorted));
     assert!(rt; finds_next(&mut sorted));
     Ok(())
@@ -35,36 +33,20 @@ fn sorted_full_and_empty(rt: HostRuntime) -> Result<(), Fail> {
 
 #[test]
 fn blocks_full_and_empty(rt: HostRuntime) -> Result<(), Fail> {
-    let Ok(mut blocks) = BlockStore::<Listing, ListingRow>::new(rt.alloc(), 8) else {
-        return Err(Fail::new("no block store"));
-    };
+    let mut blocks = Blocks::new(rt.alloc(), 8)?;
     assert!(rt; full_and_empty(&mut blocks));
     assert!(rt; finds_next(&mut blocks));
     Ok(())
 }
 
 #[test]
-fn limit_refused(rt: HostRuntime) -> Result<(), Fail> {
-    if let Err(NewStoreError::Limit) = SortedStore::<Listing, ListingRow>::new(
-        rt.alloc(),
-        1048577,
-    ) {
-        if let Err(NewStoreError::Limit) = BlockStore::<Listing, ListingRow>::new(
-            rt.alloc(),
-            1048577,
-        ) {
-            return Ok(());
-        }
-    }
-    Err(Fail::new("a limit above 1,048,576 is taken"))
+fn limit_refused(rt: HostRuntime) {
+    assert!(rt; matches!(Sorted::new(rt.alloc(), 1048577), Err(NewStoreError::Limit)));
+    assert!(rt; matches!(Blocks::new(rt.alloc(), 1048577), Err(NewStoreError::Limit)));
 }
 
 #[test]
-fn limit_taken(rt: HostRuntime) -> Result<(), Fail> {
-    if let Ok(_) = SortedStore::<Listing, ListingRow>::new(rt.alloc(), 1048576) {
-        if let Ok(_) = BlockStore::<Listing, ListingRow>::new(rt.alloc(), 1048576) {
-            return Ok(());
-        }
-    }
-    Err(Fail::new("a limit of 1,048,576 is refused"))
+fn limit_taken(rt: HostRuntime) {
+    assert!(rt; Sorted::new(rt.alloc(), 1048576).is_ok());
+    assert!(rt; Blocks::new(rt.alloc(), 1048576).is_ok());
 }
