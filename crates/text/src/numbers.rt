@@ -25,7 +25,7 @@ pub fn decimal(digits: &[u8], limit: u64) -> Option<u64>
     Some(n)
 }
 
-// Appends a number in decimal. What is written is read back as that number.
+// Appends a number in decimal. What is written is read back as that number, which `write!` alone does not say.
 pub fn push_decimal(out: &mut Vec<u8>, n: u64) -> Result<(), AllocError>
     ensures appended { OnOk result (out.new.items ≡ out.old.items ++ decimal_text n) }
     ensures digits { decimal_text n ≡ digits_within 20 n }
