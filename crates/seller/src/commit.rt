@@ -19,6 +19,7 @@ use slots::change::edit_all;
 pub(crate) const CLOCK_END: u32 = 4000000000;
 
 // Makes the session's changes last, and answers their stamp: 0 where there are none. A stale read undoes the session.
+// 0 and no Option: the rule answers a number, and callers print it.
 pub fn commit<K: Key, R: Copy>(
     sheet: &mut Sheet,
     hot: &mut [HotRow<K, R>],
