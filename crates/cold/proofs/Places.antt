@@ -1,5 +1,5 @@
 -- The place of a key number and tag in a list that is in order, and what stands there.
-use Rattle.std.proofs.Common.{◌≡◌, ℕ, ◌+◌, ◌<◌, ◌≤◌, Bool, true, false, cond, not, ◌||◌, eqb, List, [], ◌∷◌, length, get_or, Some, None, sym, refl, ap, ◌∙◌, ⊎_elim, arith}
+use Rattle.std.proofs.Common.{◌≡◌, ℕ, ◌+◌, ◌<◌, ◌≤◌, Bool, true, false, cond, not, ◌||◌, eqb, leb, List, [], ◌∷◌, length, get_or, Some, None, Option, sym, refl, ap, ◌∙◌, ⊎_elim, arith}
 use Rattle.std.specs.List.{remove, prefix_len}
 use Rattle.std.specs.List.Sorted.{IsPartitionedBy, IsPartitionPoint}
 use Rattle.std.proofs.lemmas.List.Sums.{prefix_len_is}
@@ -7,8 +7,9 @@ use Rattle.std.proofs.Math.Numerals.{one-add}
 use Rattle.std.proofs.lemmas.Bool.{and_parts, both_ways, cases_lt, cond-true, cond-false}
 use Rattle.std.proofs.lemmas.Bool.Decides.{nat_tests}
 use Rattle.cold.specs.Lists.{all, any, rise, nth}
-use Rattle.cold.specs.Cold.{Entry, below_by, before, in_order, is_of, is_there, removed_after, is_own, own, told, first_of, found}
+use Rattle.cold.specs.Cold.{Entry, below_by, before, in_order, is_of, is_there, put_in, removed_after, is_own, own, told, first_of, found}
 use Rattle.cold.specs.Sorted.{place, of_key}
+use Rattle.cold.specs.declared.store.Found.{Found}
 use Rattle.cold.proofs.Lists.{all_none, kept_none, rise_pair}
 use Rattle.cold.proofs.PutIn.{removed_none}
 
