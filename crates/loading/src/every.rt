@@ -4,7 +4,7 @@ ghost use Rattle.cold.specs.Cold.{in_order};
 ghost use Rattle.loading.specs.Loading.{loaded, served};
 ghost use Rattle.loading.specs.Report.{finds_text};
 
-use crate::finding::{find_row, load};
+use crate::finding::{Behind, load};
 use crate::writing::push_find;
 use cold::store::ColdStore;
 use filter::Filter;
@@ -52,19 +52,17 @@ pub fn push_finds<
 >(
     out: &mut Vec<u8>,
     records: &[Record],
-    sorted: &A,
-    bloom: &F,
-    blocks: &B,
-    band: &G,
+    sorted: &Behind<'_, A, F>,
+    blocks: &Behind<'_, B, G>,
 ) -> Result<(), AllocError>
     ensures { OnOk result (out.new.items
         ≡ out.old.items
-        ++ finds_text (F.Filter.admitted bloom.now) (A.ColdStore.entries sorted.now)
-        (G.Filter.admitted band.now) (B.ColdStore.entries blocks.now) records.now) }
+        ++ finds_text (F.Filter.admitted sorted.now.filter.now) (A.ColdStore.entries sorted.now.store.now)
+        (G.Filter.admitted blocks.now.filter.now) (B.ColdStore.entries blocks.now.store.now) records.now) }
 {
     for read in records {
-        let in_sorted = find_row(sorted, bloom, &read.key);
-        let in_blocks = find_row(blocks, band, &read.key);
+        let in_sorted = sorted.find_row(&read.key);
+        let in_blocks = blocks.find_row(&read.key);
         push_find(out, read.key.id, in_sorted, in_blocks)?;
     }
     Ok(())

@@ -22,20 +22,25 @@ pub fn load<C: ColdStore<Listing, ListingRow>>(store: &mut C, tag: u32, read: &R
     store.put(read.key, tag, read.row).is_ok()
 }
 
-// The row of a key's first entry in a store, which is asked only where its filter admits the key.
-pub fn find_row<C: ColdStore<Listing, ListingRow>, F: Filter>(
-    store: &C,
-    filter: &F,
-    key: &Listing,
-) -> Option<ListingRow>
-    ensures { result
-        ≡ row_behind (F.Filter.admitted filter.now key.now.id) (C.ColdStore.entries store.now)
-        key.now.id }
-{
-    if !filter.admits(key.number()) {
-        return None;
+// A cold store, which is asked only where its filter admits the key.
+#[derive(Drop)]
+pub struct Behind<'a, C, F> {
+    pub store: &'a C,
+    pub filter: &'a F,
+}
+
+impl<C: ColdStore<Listing, ListingRow>, F: Filter> Behind<'_, C, F> {
+    // The row of a key's first entry.
+    pub fn find_row(&self, key: &Listing) -> Option<ListingRow>
+        ensures { result
+            ≡ row_behind (F.Filter.admitted self.now.filter.now key.now.id) (C.ColdStore.entries self.now.store.now)
+            key.now.id }
+    {
+        if !self.filter.admits(key.number()) {
+            return None;
+        }
+        self.store.find(key, 0).map(|found| found.row)
     }
-    store.find(key, 0).map(|found| found.row)
 }
 
 // Loads a record, adds its number to the filter, and finds it again. Whatever the filter is, a key that had no entry is found
@@ -60,5 +65,5 @@ pub fn load_and_find<C: ColdStore<Listing, ListingRow>, F: Filter>(
 {
     let _ = load(store, tag, read);
     filter.add(read.key.number());
-    find_row(store, filter, &read.key)
+    Behind { store, filter }.find_row(&read.key)
 }

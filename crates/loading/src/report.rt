@@ -8,7 +8,7 @@ ghost use Rattle.loading.specs.Loading.{loaded};
 ghost use Rattle.loading.specs.Report.{good, goods, next_number, next_text, loads_text, report_of, answer_of};
 
 use crate::every::{add_all, load_all, push_finds};
-use crate::finding::find_row;
+use crate::finding::Behind;
 use crate::writing::{push_absent, push_loaded};
 use blocks::store::BlockStore;
 use cold::sorted::SortedStore;
@@ -66,27 +66,25 @@ fn push_next<
 >(
     out: &mut Vec<u8>,
     records: &[Record],
-    sorted: &A,
-    bloom: &F,
-    blocks: &B,
-    band: &G,
+    sorted: &Behind<'_, A, F>,
+    blocks: &Behind<'_, B, G>,
 ) -> Result<(), AllocError>
     ensures { OnOk result (out.new.items
         ≡ out.old.items
-        ++ next_text (F.Filter.admitted bloom.now) (A.ColdStore.entries sorted.now)
-        (G.Filter.admitted band.now) (B.ColdStore.entries blocks.now) (next_number records.now)) }
+        ++ next_text (F.Filter.admitted sorted.now.filter.now) (A.ColdStore.entries sorted.now.store.now)
+        (G.Filter.admitted blocks.now.filter.now) (B.ColdStore.entries blocks.now.store.now) (next_number records.now)) }
 {
     let Some(number) = next_number(records) else {
         return Ok(());
     };
     let key = Listing { id: number };
-    let in_sorted = find_row(sorted, bloom, &key);
-    let in_blocks = find_row(blocks, band, &key);
+    let in_sorted = sorted.find_row(&key);
+    let in_blocks = blocks.find_row(&key);
     push_absent(
         out,
         number,
-        bloom.admits(number),
-        band.admits(number),
+        sorted.filter.admits(number),
+        blocks.filter.admits(number),
         in_sorted,
         in_blocks,
     )?;
@@ -125,9 +123,17 @@ fn load_both<
     add_all(band, records);
     let in_sorted = load_all(sorted, records);
     let in_blocks = load_all(blocks, records);
-    push_finds(out, records, sorted, bloom, blocks, band)?;
+    let sorted = Behind {
+        store: sorted,
+        filter: bloom,
+    };
+    let blocks = Behind {
+        store: blocks,
+        filter: band,
+    };
+    push_finds(out, records, &sorted, &blocks)?;
     push_loaded(out, in_sorted, in_blocks)?;
-    push_next(out, records, sorted, bloom, blocks, band)?;
+    push_next(out, records, &sorted, &blocks)?;
     Ok(())
 }
 
