@@ -1,13 +1,13 @@
 -- The counts and lengths of lent tables, and an edit of a list where none passes.
-use Rattle.std.proofs.Common.{◌≡◌, ℕ, ◌<◌, ◌≤◌, min, Bool, true, false, ltb, leb, List, [], ◌∷◌, length, take, refl, ap, inl, inr, arith}
+use Rattle.std.proofs.Common.{◌≡◌, ℕ, ◌<◌, ◌≤◌, min, Bool, true, false, ltb, leb, List, [], ◌∷◌, length, take, sym, refl, ap, inl, inr, arith}
 use Rattle.std.proofs.lemmas.List.{length-take-le}
 use Rattle.std.proofs.lemmas.Bool.{cases_Bool, and_parts, eqb-true, le-leb, lt-leb, cond_both}
 use Rattle.slots.specs.Lists.{any, at_first, count_without}
 use Rattle.rules.specs.Stores.{Lengths, same_lengths}
 
 -- lent lengths that are the opening's
-pub memos_are : (a b : Lengths) → same_lengths a b ≡ true → a.memos ≡ b.memos
-memos_are a b e = eqb-true _ _ (and_parts _ _ (and_parts _ _ e).1).0
+pub memos_are : (a b : Lengths) → true ≡ same_lengths a b → a.memos ≡ b.memos
+memos_are a b e = eqb-true _ _ (and_parts _ _ (and_parts _ _ (sym e)).1).0
 
 module _ {X : Type 0} (room used : ℕ) (xs : List X) (l : length xs ≡ room) (fits : used ≤ room) where
   -- no slot is left, or one is
@@ -26,6 +26,6 @@ pub none_edited : {X : Type 0} (p : X → Bool) (f : X → List X) (xs : List X)
 unfolding any at_first
 none_edited p f [] h = refl
 none_edited p f (x ∷ xs) h = elim (cases_Bool (p x)) [
-  | inl e ↦ absurd (let z : ◌≡◌ {A = ℕ} 0 1 = cc (rw e at h) in omega arith)
+  | inl e ↦ absurd (cc (rw e at h))
   | inr e ↦ rw e (ap (λ z. x ∷ z) (none_edited p f xs (rw e at h)))
 ]

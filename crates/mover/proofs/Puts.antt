@@ -1,5 +1,5 @@
 -- What a put that the cold store refuses leaves.
-use Rattle.std.proofs.Common.{◌≡◌, ℕ, Bool, true, false, cond, eqb, List, length, Ok, Err, refl, arith}
+use Rattle.std.proofs.Common.{◌≡◌, ℕ, Bool, true, false, cond, eqb, List, length, Ok, Err, refl}
 use Rattle.cold.specs.Cold.{Entry, is_there, put_in, put_answer, put_after}
 use Rattle.cold.specs.declared.store.ColdRefusal.{ColdRefusal}
 use Rattle.cold.specs.declared.store.ColdRefusal.TheVariants.{There, Full}
@@ -13,4 +13,4 @@ put_refused limit es n t r why h = go (is_there n t es) (eqb (length es) limit) 
         → cond a es (cond b es (put_in (record { number = n; tag = t; row = r }) es)) ≡ es
     go true b h = refl
     go false true h = refl
-    go false false h = absurd (let z : ◌≡◌ {A = ℕ} 0 1 = cc in omega arith)
+    go false false h = absurd cc

@@ -1,14 +1,10 @@
 -- What a copy may do to the filter's set: where a row is marked chosen with the tag, it gains the row's key number, may gain others,
 -- and loses none; otherwise it is as it was.
-use Rattle.std.specs.Prelude.{◌≡◌, ℕ, Bool, true, cond, Some, None, Option}
+use Rattle.std.specs.Prelude.{◌≡◌, ℕ, Bool, cond, Some, None, Option}
 use Rattle.slots.specs.Lists.{first}
 use Rattle.rules.specs.declared.tables.HotRow.{HotRow}
 use Rattle.rules.specs.Stores.{Store, Lengths, same_lengths}
-use Rattle.rules.specs.Moving.{row_chosen}
-
--- a set with a number and all that there was
-abbrev pub HasMore : ℕ → (ℕ → Bool) → (ℕ → Bool) → Type 0
-HasMore n old new = (new n ≡ true) × ((m : ℕ) → old m ≡ true → new m ≡ true)
+use Rattle.rules.specs.Moving.{row_chosen, HasMore}
 
 module _ {K R : Type 0} (number : K → ℕ) where
   abbrev pub GrownBy : Option (HotRow K R) → (ℕ → Bool) → (ℕ → Bool) → Type 0

@@ -1,9 +1,9 @@
 ghost use Rattle.std.specs.Prelude.{◌≡◌, MatchResult};
 ghost use Rattle.cold.specs.Cold.{put_answer, put_after};
 ghost use Rattle.rules.specs.Stores.{store, lent};
-ghost use Rattle.rules.specs.Moving.{copy_rule};
+ghost use Rattle.rules.specs.Moving.{copy_rule, HasMore};
 ghost use Rattle.mover.specs.Hands.{told_moved, LeftBy};
-ghost use Rattle.mover.specs.Grown.{HasMore, Grown};
+ghost use Rattle.mover.specs.Grown.{Grown};
 
 use crate::moves::{Chosen, Copied, Move, Stopped};
 use cold::store::{ColdRefusal, ColdStore};

@@ -19,8 +19,8 @@ returns-in_err-hit g c =
     let found : c.find_first.result ≡ hit p xs = c.find_first.ensures p (λ x r k. search rules) in
     let f = hit_none p xs (sym found ∙ c.in_err-hit.ensures.ok_part) in
     record {
-      answer = λ es l a. rw (sym c.if-not-is_lent.ensures, f) (search rules);
-      after = λ es l a. rw (sym c.if-not-is_lent.ensures, f);
+      answer = λ es l a. rw (← c.if-not-is_lent.ensures, f) (search rules);
+      after = λ es l a. rw (← c.if-not-is_lent.ensures, f);
     }
 
 -- the row that is found
@@ -41,8 +41,8 @@ returns-then-ne g c =
     let f = row_is g (goal.at.returns-then-ne g c).After-ne in
     let m : unmoved c.in_ok-hit.hit.it.mark ≡ false = search rules in
     record {
-      answer = λ es l a. rw (sym c.if-not-is_lent.ensures, f, m);
-      after = λ es l a. rw (sym c.if-not-is_lent.ensures, f, m);
+      answer = λ es l a. rw (← c.if-not-is_lent.ensures, f, m);
+      after = λ es l a. rw (← c.if-not-is_lent.ensures, f, m);
     }
 
 pub returns-then-sheet-ge-LAST_TAG : goal.returns-then-sheet-ge-LAST_TAG
@@ -51,28 +51,28 @@ returns-then-sheet-ge-LAST_TAG g c =
     let m : unmoved c.in_ok-hit.hit.it.mark ≡ true = search rules in
     let t = le-leb 4000000000 c.args.sheet.now.last_tag c.if-sheet-ge-LAST_TAG.true in
     record {
-      answer = λ es l a. rw (sym c.if-not-is_lent.ensures, f, m, t);
-      after = λ es l a. rw (sym c.if-not-is_lent.ensures, f, m, t);
+      answer = λ es l a. rw (← c.if-not-is_lent.ensures, f, m, t);
+      after = λ es l a. rw (← c.if-not-is_lent.ensures, f, m, t);
     }
 
 pub returns-then-sheet : goal.returns-then-sheet
 returns-then-sheet g c =
     let sheet = c.args.sheet.now in
-    let e = sym c.if-not-is_lent.ensures in
+    let e = c.if-not-is_lent.ensures in
     let f = row_is g (goal.at.returns-then-sheet g c).After-ne in
     let m : unmoved c.in_ok-hit.hit.it.mark ≡ true = search rules in
     let t = lt-leb 4000000000 sheet.last_tag c.if-sheet-ge-LAST_TAG.false in
     let room = memos_are (lent c.args.hot.now c.args.memo.now c.args.ledger.now) (lengths_of sheet) e in
     let full = is_full sheet.memo_length sheet.memo_used c.args.memo.now room sheet.memo_fits c.if-sheet.true in
     record {
-      answer = λ es l a. rw (e, f, m, t, full);
-      after = λ es l a. rw (e, f, m, t, full);
+      answer = λ es l a. rw (← e, f, m, t, full);
+      after = λ es l a. rw (← e, f, m, t, full);
     }
 
 pub invariant_of-sheet : goal.invariant_of-sheet
 invariant_of-sheet g c =
     let sheet = c.args.sheet.now in
-    let e = sym c.if-not-is_lent.ensures in
+    let e = c.if-not-is_lent.ensures in
     let room = memos_are (lent c.args.hot.now c.args.memo.now c.args.ledger.now) (lengths_of sheet) e in
     let k = count_with_more (length c.args.memo.now) sheet.memo_used (omega arith) in
     record { hot_fits = sheet.hot_fits; memo_fits = omega (arith, c.append-sheet.ensures.count); ledger_fits = sheet.ledger_fits }
@@ -81,7 +81,7 @@ pub returns : goal.returns
 returns g c =
     let sheet = c.args.sheet.now in
     let memo = c.args.memo.now in
-    let e = sym c.if-not-is_lent.ensures in
+    let e = c.if-not-is_lent.ensures in
     let q = row_hit g (goal.at.returns g c).After-ne in
     let f = row_is g (goal.at.returns g c).After-ne in
     let m : unmoved c.in_ok-hit.hit.it.mark ≡ true = search rules in
@@ -94,6 +94,6 @@ returns g c =
     let notices = c.append-sheet.ensures.list
     ∙ appended_more (length memo) sheet.memo_used (new_pending c.args.key tag) (take sheet.memo_used memo) (omega arith) in
     record {
-      answer = λ es l a. rw (e, f, m, t, free);
-      after = λ es l a. rw (e, f, m, t, free, rows, notices);
+      answer = λ es l a. rw (← e, f, m, t, free);
+      after = λ es l a. rw (← e, f, m, t, free, rows, notices);
     }

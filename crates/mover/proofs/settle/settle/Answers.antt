@@ -8,10 +8,10 @@ use Rattle.mover.proofs.settle.settle.Goals as goal
 
 pub returns-in_default : goal.returns-in_default
 returns-in_default g c =
-    let e = sym c.if-not-is_lent.ensures in
+    let e = c.if-not-is_lent.ensures in
     let none = c.in_default.ensures (row_copied c.args.moving.tag) (λ x r k. search rules) in
     let f = hit_none _ _ (sym none) in
-    record { answer = λ es l a. rw (e, f); after = λ es l a. rw (e, f); hand = search rules }
+    record { answer = λ es l a. rw (← e, f); after = λ es l a. rw (← e, f); hand = search rules }
 
 pub invariant_of-sheet : goal.invariant_of-sheet
 invariant_of-sheet g c =
@@ -25,14 +25,14 @@ returns g c =
     let tag = c.args.moving.tag in
     let h = c.in-Some.hit in
     let sheet = c.args.sheet.now in
-    let e = sym c.if-not-is_lent.ensures in
+    let e = c.if-not-is_lent.ensures in
     let q = sym (c.in-Some.ensures (row_copied tag) (λ x r k. search rules)) in
     let f = hit_first _ _ h q in
     let rows = c.take_out-sheet.ensures.list ∙ hit_removed (row_copied tag) (take sheet.hot_used c.args.hot.now) h q in
     let notices = c.edit_first.ensures.list (is_for g.K.Key.number (g.K.Key.number h.it.key) tag) (settle_notice (begin_stamp h.it.begin))
     (λ x r k. search rules) (λ x y k. search rules) in
     record {
-      answer = λ es l a. rw (e, f);
-      after = λ es l a. rw (e, f, rows, notices);
+      answer = λ es l a. rw (← e, f);
+      after = λ es l a. rw (← e, f, rows, notices);
       hand = search rules;
     }
