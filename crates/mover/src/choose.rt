@@ -38,14 +38,14 @@ pub fn choose<K: Key, R: Copy>(
         return Err(Refusal::OutOfRange(Side::Mover));
     }
     let number = key.number();
-    let hit = find_first(hot, sheet.hot_used, |row| is_movable(row, number)).ok_or(Refusal::NoRow)?;
+    let hit = find_first(hot, sheet.hot.used, |row| is_movable(row, number)).ok_or(Refusal::NoRow)?;
     if hit.it.mark != MoveMark::Unmoved {
         return Err(Refusal::AlreadyMarked);
     }
     if sheet.last_tag >= LAST_TAG {
         return Err(Refusal::TagsAtEnd);
     }
-    if sheet.memo_used >= sheet.memo_length {
+    if sheet.memo.used >= sheet.memo.length {
         return Err(Refusal::MemoFull(Side::Mover));
     }
     let tag = sheet.last_tag + 1;
@@ -57,7 +57,7 @@ pub fn choose<K: Key, R: Copy>(
         begin: 1,
         end: None,
     };
-    sheet.memo_used = append(memo, sheet.memo_used, pending);
+    sheet.memo.used = append(memo, sheet.memo.used, pending);
     sheet.last_tag = tag;
     Ok(Move {
         tag,

@@ -47,30 +47,30 @@ module _ {K R : Type 0} (number : K → ℕ) (sheet : Sheet) (hot : List (HotRow
 
   module _ (r : Reading) (q : Ok r ≡ admitted (lent hot memo ledger) (bare sheet hot memo ledger) s)
       (note : Bool) (new : note ≡ new_line number σ r.mode s (number key)) where
-    pub short_is : (new_line number σ r.mode s (number key) && ledger_full σ) ≡ (note && leb sheet.ledger_length sheet.ledger_used)
+    pub short_is : (new_line number σ r.mode s (number key) && ledger_full σ) ≡ (note && leb sheet.ledger.length sheet.ledger.used)
     short_is =
         ap (λ b. b && ledger_full σ) (sym new)
-        ∙ ap (λ n. note && leb sheet.ledger_length n) (entered sheet hot memo ledger s q).ledger_count
+        ∙ ap (λ n. note && leb sheet.ledger.length n) (entered sheet hot memo ledger s q).ledger_count
 
-    pub read_short : true ≡ (note && leb sheet.ledger_length sheet.ledger_used)
+    pub read_short : true ≡ (note && leb sheet.ledger.length sheet.ledger.used)
         → refused refusal.LedgerFull (untold σ) ≡ read_rule number (lent hot memo ledger) σ s key
     read_short h = sym (cond-true _ _ _ (short_is ∙ sym h)) ∙ is_admitted (lent hot memo ledger) σ (untold σ) s reads q
 
-    module _ (h : false ≡ (note && leb sheet.ledger_length sheet.ledger_used)) where
+    module _ (h : false ≡ (note && leb sheet.ledger.length sheet.ledger.used)) where
       -- the ledger after the line
       pub lines_are : {lines : List (Line K)}
-          → lines ≡ cond note (appended (length ledger) sheet.ledger_used (record { session = s; key = key }) (take sheet.ledger_used ledger))
-          (take sheet.ledger_used ledger)
+          → lines ≡ cond note (appended (length ledger) sheet.ledger.used (record { session = s; key = key }) (take sheet.ledger.used ledger))
+          (take sheet.ledger.used ledger)
           → lines ≡ cond (new_line number σ r.mode s (number key)) (σ.ledger ++ one (record { session = s; key = key })) σ.ledger
       lines_are e =
           let long = (entered sheet hot memo ledger s q).ledger_long in
-          e ∙ lined note (length ledger) sheet.ledger_used _ _ (h ∙ ap (λ n. note && leb n sheet.ledger_used) (sym long))
+          e ∙ lined note (length ledger) sheet.ledger.used _ _ (h ∙ ap (λ n. note && leb n sheet.ledger.used) (sym long))
           ∙ ap (λ b. cond b (σ.ledger ++ one (record { session = s; key = key })) σ.ledger) new
 
       pub read_served : (i : ℕ) (l : Looked R) → l ≡ looked_at i (looked number σ s r.time (number key)) → {o : Option R} → o ≡ option_map (λ v. v.row) l.seen
           → {lines : List (Line K)}
-          → lines ≡ cond note (appended (length ledger) sheet.ledger_used (record { session = s; key = key }) (take sheet.ledger_used ledger))
-          (take sheet.ledger_used ledger)
+          → lines ≡ cond note (appended (length ledger) sheet.ledger.used (record { session = s; key = key }) (take sheet.ledger.used ledger))
+          (take sheet.ledger.used ledger)
           → served (answer.Row o) (with_ledger (with_finds σ l.finds) lines) ≡ read_rule number (lent hot memo ledger) σ s key
       read_served i l e {o} f {lines} g =
           let row : o ≡ row_of (looked number σ s r.time (number key)).seen =

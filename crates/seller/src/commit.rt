@@ -53,10 +53,10 @@ pub fn commit<K: Key, R: Copy>(
         return Err(Refusal::ClockAtEnd);
     }
     let stamp = sheet.clock + 1;
-    edit_all(hot, sheet.hot_used, |row| stamp_row(row, session, stamp));
+    edit_all(hot, sheet.hot.used, |row| stamp_row(row, session, stamp));
     edit_all(
         memo,
-        sheet.memo_used,
+        sheet.memo.used,
         |notice| stamp_notice(notice, session, stamp),
     );
     sheet.clock = stamp;

@@ -8,9 +8,9 @@ use slots::count::append;
 
 // Whether a line is to be entered and no slot is left for it.
 pub(crate) fn is_ledger_short(sheet: &Sheet, note: bool) -> bool
-    ensures { result ≡ note && nat_le sheet.now.ledger_length sheet.now.ledger_used }
+    ensures { result ≡ note && nat_le sheet.now.ledger.length sheet.now.ledger.used }
 {
-    note && sheet.ledger_length <= sheet.ledger_used
+    note && sheet.ledger.length <= sheet.ledger.used
 }
 
 // Enters a line where one is to be entered, and answers how many there are then.

@@ -54,8 +54,8 @@ pub fn read<K: Key, R: Copy, C: ColdStore<K, R>, F: Filter>(
         return Err(Refusal::LedgerFull);
     }
     let looked = tables.lookup(cold, filter, reader, &key);
-    let lines = note_line(ledger, sheet.ledger_used, note, session, key);
+    let lines = note_line(ledger, sheet.ledger.used, note, session, key);
     sheet.finds = looked.finds;
-    sheet.ledger_used = lines;
+    sheet.ledger.used = lines;
     Ok(looked.row())
 }

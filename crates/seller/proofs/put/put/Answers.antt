@@ -29,7 +29,7 @@ returns-in_err-ending g c =
     (g.C.ColdStore.entries c.args.cold.now) (g.C.ColdStore.limit c.args.cold.now) (g.F.Filter.admitted c.args.filter.now)
     c.args.session c.args.key c.args.row c.in_ok-reading.reading c.in_ok-reading.ensures c.number-number.result c.number-number.ensures
     c.if-is_conflict.ensures (sym c.in_default.is ∙ c.own_place.ensures) c.if-tables.false c.lookup-looked.result c.lookup-looked.ensures
-    (leb c.args.sheet.now.memo_length c.args.sheet.now.memo_used) refl c.in_err-ending.ensures in
+    (leb c.args.sheet.now.memo.length c.args.sheet.now.memo.used) refl c.in_err-ending.ensures in
     record {
       answer = ap told_done (left_by c.from_residual-in_err-ending.result _ c.from_residual-in_err-ending.ensures.1) ∙ ap answer_of given;
       after = ap after_of given;
@@ -39,14 +39,14 @@ pub invariant_of-sheet-2 : goal.invariant_of-sheet-2
 invariant_of-sheet-2 g c =
     let sheet = c.args.sheet.now in
     let w = entered c.args.sheet.now c.args.hot.now c.args.memo.now c.args.ledger.now c.args.session c.in_ok-reading.ensures in
-    let rows = with_count (length c.end_version-notices.new.hot) sheet.hot_used
-    (omega (arith, w.hot_long, sheet.hot_fits, c.end_version-notices.auto.hot)) in
-    let notices = ended_count c.in_ok-ending.ending (length c.args.memo.now) sheet.memo_used
-    (omega (arith, w.memo_long, sheet.memo_fits)) in
+    let rows = with_count (length c.end_version-notices.new.hot) sheet.hot.used
+    (omega (arith, w.hot_long, sheet.hot.fits, c.end_version-notices.auto.hot)) in
+    let notices = ended_count c.in_ok-ending.ending (length c.args.memo.now) sheet.memo.used
+    (omega (arith, w.memo_long, sheet.memo.fits)) in
     record {
       hot_fits = omega (arith, w.hot_long, c.append-rows.ensures.count, c.end_version-notices.auto.hot);
       memo_fits = omega (arith, w.memo_long, c.end_version-notices.ensures.count);
-      ledger_fits = sheet.ledger_fits;
+      ledger_fits = sheet.ledger.fits;
     }
 
 pub returns : goal.returns
@@ -55,7 +55,7 @@ returns g c =
     (g.C.ColdStore.entries c.args.cold.now) (g.C.ColdStore.limit c.args.cold.now) (g.F.Filter.admitted c.args.filter.now)
     c.args.session c.args.key c.args.row c.in_ok-reading.reading c.in_ok-reading.ensures c.number-number.result c.number-number.ensures
     c.if-is_conflict.ensures (sym c.in_default.is ∙ c.own_place.ensures) c.if-tables.false c.lookup-looked.result c.lookup-looked.ensures
-    (leb c.args.sheet.now.memo_length c.args.sheet.now.memo_used) refl c.in_ok-ending.ensures
+    (leb c.args.sheet.now.memo.length c.args.sheet.now.memo.used) refl c.in_ok-ending.ensures
     c.end_version-notices.new.hot c.end_version-notices.ensures.hot c.end_version-notices.auto.hot
     c.append-rows.ensures.list c.end_version-notices.ensures.memo in
     record { answer = ap answer_of given; after = ap after_of given }
