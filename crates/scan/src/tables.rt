@@ -17,13 +17,6 @@ use rules::tables::{HotRow, Line, Notice};
 use rules::times::{Moment, Reader};
 use slots::search::{any_of, find_first, listed};
 
-// Whether a notice is that of a cold entry: with its key number and tag.
-fn is_for<K: Key>(notice: &Notice<K>, number: u64, tag: u32) -> bool
-    ensures { result ≡ is_for K.Key.number number tag notice.now }
-{
-    notice.key.number() == number && notice.tag == tag
-}
-
 // The sheet and the tables of a store, lent to be read.
 #[derive(Drop)]
 pub struct Tables<'a, K, R> {
@@ -51,7 +44,7 @@ impl<K: Key, R: Copy> Tables<'_, K, R> {
     {
         listed(self.memo, self.sheet.memo.used)
             .iter()
-            .position(|notice| is_for(notice, number, tag))
+            .position(|notice| notice.is_for(number, tag))
     }
 
     // Whether the key is in conflict for the reader.
@@ -121,7 +114,7 @@ impl<K: Key, R: Copy> Tables<'_, K, R> {
         ensures { result ≡ notice_for K.Key.number (take self.now.sheet.now.memo.used self.now.memo.now) number tag }
     {
         find_first(self.memo, self.sheet.memo.used, |notice| {
-            is_for(notice, number, tag)
+            notice.is_for(number, tag)
         })
         .map(|hit| hit.it)
     }
