@@ -8,15 +8,13 @@ use crate::moves::{Chosen, Move};
 use keys::key::Key;
 use marks::rows::is_movable;
 use rules::answers::{Refusal, Side};
+use rules::limits::LAST_TAG;
 use rules::sheet::Sheet;
 use rules::tables::{HotRow, Kind, Line, MoveMark, Notice};
 use slots::change::edit_at;
 use slots::count::append;
 use slots::search::find_first;
 use std::marker::PhantomData;
-
-// The last tag that a move can have.
-const LAST_TAG: u32 = 4_000_000_000;
 
 // Starts the move of a key's row: marks it chosen with a new tag, and adds the notice that hides its cold entry to be.
 pub fn choose<K: Key, R: Copy>(
@@ -45,7 +43,7 @@ pub fn choose<K: Key, R: Copy>(
     if sheet.last_tag >= LAST_TAG {
         return Err(Refusal::TagsAtEnd);
     }
-    if sheet.memo.used >= sheet.memo.length {
+    if sheet.memo.is_full() {
         return Err(Refusal::MemoFull(Side::Mover));
     }
     let tag = sheet.last_tag + 1;

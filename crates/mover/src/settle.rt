@@ -6,7 +6,7 @@ ghost use Rattle.mover.specs.Hands.{told_moved, LeftBy};
 
 use crate::moves::{Copied, Move, Stopped};
 use keys::key::Key;
-use marks::notices::{is_for, settle_notice};
+use marks::notices::settle_notice;
 use rules::answers::{Refusal, Side};
 use rules::sheet::Sheet;
 use rules::tables::{HotRow, Line, MoveMark, Notice};
@@ -45,7 +45,7 @@ pub fn settle<K: Key, R: Copy>(
     edit_first(
         memo,
         sheet.memo.used,
-        |notice| is_for(notice, number, tag),
+        |notice| notice.is_for(number, tag),
         |notice| settle_notice(notice, begin),
     );
     Ok(())

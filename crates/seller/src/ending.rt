@@ -38,7 +38,7 @@ pub(crate) fn ending_of<K: Key, R: Copy>(
         Place::Hot(at) => Ending::Row(at),
         Place::Cold(tag) => match tables.notice_place(number, tag) {
             Some(at) => Ending::Turn(at),
-            None if tables.sheet.memo.length <= tables.sheet.memo.used => {
+            None if tables.sheet.memo.is_full() => {
                 return Err(Refusal::MemoFull(Side::Seller));
             }
             None => Ending::Add(tag),

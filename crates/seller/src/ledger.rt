@@ -10,7 +10,7 @@ use slots::count::append;
 pub(crate) fn is_ledger_short(sheet: &Sheet, note: bool) -> bool
     ensures { result ≡ note && nat_le sheet.now.ledger.length sheet.now.ledger.used }
 {
-    note && sheet.ledger.length <= sheet.ledger.used
+    note && sheet.ledger.is_full()
 }
 
 // Enters a line where one is to be entered, and answers how many there are then.

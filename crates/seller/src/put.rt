@@ -60,7 +60,7 @@ pub fn put<K: Key, R: Copy, C: ColdStore<K, R>, F: Filter>(
         edit_at(hot, at, |version| version.row = row);
         return Ok(());
     }
-    if tables.sheet.hot.length <= tables.sheet.hot.used {
+    if tables.sheet.hot.is_full() {
         return Err(Refusal::HotFull);
     }
     let looked = tables.lookup(cold, filter, reader, &key);

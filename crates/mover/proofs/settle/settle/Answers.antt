@@ -18,7 +18,7 @@ invariant_of-sheet g c =
     let sheet = c.args.sheet.now in
     let k = count_without_within (length c.args.hot.now) sheet.hot.used c.in-Some.hit.at in
     let h = sheet.hot.fits in
-    record { hot_fits = omega (arith, c.take_out-sheet.ensures.count); memo_fits = sheet.memo.fits; ledger_fits = sheet.ledger.fits }
+    record { fits = omega (arith, c.take_out-sheet.ensures.count) }
 
 pub returns : goal.returns
 returns g c =

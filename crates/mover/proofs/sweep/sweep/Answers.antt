@@ -17,7 +17,7 @@ invariant_of-sheet g c =
     let sheet = c.args.sheet.now in
     let k = count_without_within (length c.args.memo.now) sheet.memo.used c.in-Some.hit.at in
     let h = sheet.memo.fits in
-    record { hot_fits = sheet.hot.fits; memo_fits = omega (arith, c.take_out-sheet.ensures.count); ledger_fits = sheet.ledger.fits }
+    record { fits = omega (arith, c.take_out-sheet.ensures.count) }
 
 pub returns-in-None : goal.returns-in-None
 returns-in-None g c =
