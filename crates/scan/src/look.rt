@@ -37,7 +37,7 @@ impl Look {
                 || row.end.is_some_and(|end| end.is_foreign(self.reader)))
     }
 
-    // The same of a notice, whose begin is a stamp.
+    // The same of a notice. Its begin is a plain stamp: a trait of key, begin and end for both would be longer than the two.
     pub(crate) fn is_foreign_notice<K: Key>(self, notice: &Notice<K>) -> bool
         ensures { result ≡ notice_foreign K.Key.number self.reader.session self.reader.time self.number notice.now }
     {

@@ -1,5 +1,5 @@
 -- The first causes of a call, tried by one function.
-use Rattle.std.proofs.Common.{◌≡◌, ℕ, ◌<◌, Bool, true, false, cond, eqb, ltb, List, length, take, Some, None, Ok, Err, Option, Result, refl, ap, ◌∙◌, arith}
+use Rattle.std.proofs.Common.{◌≡◌, ℕ, ◌<◌, Bool, true, false, cond, eqb, ltb, List, length, take, Some, None, Ok, Err, Option, Result, ok_or, refl, ap, ◌∙◌, arith}
 use Rattle.std.proofs.lemmas.List.{length-take-le}
 use Rattle.std.proofs.lemmas.Bool.{and_parts, eqb-true, ltb-false}
 use Rattle.rules.specs.declared.tables.HotRow.{HotRow}
@@ -14,7 +14,7 @@ use Rattle.rules.specs.declared.answers.Refusal.TheVariants as refusal
 use Rattle.rules.specs.Stores.{Store, Lengths, lent, same_lengths, session_at}
 use Rattle.rules.specs.Outcomes.{Outcome, refused, if_lent, if_open, for_session}
 use Rattle.scan.specs.Bare.{bare}
-use Rattle.seller.specs.Admitted.{if_reading, admitted}
+use Rattle.seller.specs.Admitted.{admitted}
 
 module _ {K R : Type 0} (lent : Lengths) (σ left : Store K R) (s : ℕ) (f : Mode → ℕ → Outcome K R) where
   outcome : Result Reading Refusal → Outcome K R
@@ -26,7 +26,7 @@ module _ {K R : Type 0} (lent : Lengths) (σ left : Store K R) (s : ℕ) (f : Mo
   admission = go (same_lengths lent σ.lengths) (ltb 63 s) (session_at σ.sessions s).reading
     where
       go : (a b : Bool) (o : Option Reading)
-          → outcome (cond a (cond b (Err refusal.NoSession) (if_reading o)) (Err (refusal.OutOfRange Seller)))
+          → outcome (cond a (cond b (Err refusal.NoSession) (ok_or o refusal.NotOpen)) (Err (refusal.OutOfRange Seller)))
           ≡ cond a (cond b (refused refusal.NoSession left) (if_open o f (refused refusal.NotOpen left))) (refused (refusal.OutOfRange Seller) left)
       go false b o = refl
       go true true o = refl
@@ -52,7 +52,7 @@ module _ {K R : Type 0} (sheet : Sheet) (hot : List (HotRow K R)) (memo : List (
   entered {r} q = go (same_lengths (lent hot memo ledger) (bare sheet hot memo ledger).lengths) refl (ltb 63 s) refl q
     where
       go : (a : Bool) → same_lengths (lent hot memo ledger) (bare sheet hot memo ledger).lengths ≡ a → (b : Bool) → ltb 63 s ≡ b
-          → Ok r ≡ cond a (cond b (Err refusal.NoSession) (if_reading (session_at sheet.sessions s).reading)) (Err (refusal.OutOfRange Seller))
+          → Ok r ≡ cond a (cond b (Err refusal.NoSession) (ok_or (session_at sheet.sessions s).reading refusal.NotOpen)) (Err (refusal.OutOfRange Seller))
           → Entered sheet hot memo ledger s
       go false h b i z = absurd (let z : ◌≡◌ {A = ℕ} 0 1 = cc in omega arith)
       go true h true i z = absurd (let z : ◌≡◌ {A = ℕ} 0 1 = cc in omega arith)

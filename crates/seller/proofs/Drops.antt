@@ -2,6 +2,8 @@
 use Rattle.std.proofs.Common.{◌≡◌, ℕ, Bool, true, false, cond, ◌&&◌, leb, List, [], ◌++◌, length, take, is_some, Some, None, Ok, Err, Result, sym, refl, ap, ◌∙◌, position, Option}
 use Rattle.std.specs.List.{remove, position_or_len}
 use Rattle.std.proofs.lemmas.Bool.{cond-true, cond-false}
+use Rattle.std.specs.Option.{option_map_or}
+use Rattle.std.specs.Bool.{then_some}
 use Rattle.slots.specs.Lists.{any, one, at_first, appended}
 use Rattle.cold.specs.Cold.{Entry}
 use Rattle.rules.specs.declared.tables.HotRow.{HotRow}
@@ -46,36 +48,36 @@ module _ {K R : Type 0} (number : K → ℕ) (sheet : Sheet) (hot : List (HotRow
       (cond (new_line number σ mode s (number key) && ledger_full σ) (refused refusal.LedgerFull (untold σ)) (drops_lined mode t))
 
   -- the ledger's list after the call
-  abbrev lines_after : Bool → List (Line K)
-  lines_after note =
-      cond note (appended (length ledger) sheet.ledger.used (record { session = s; key = key }) (take sheet.ledger.used ledger))
+  abbrev lines_after : Option (Line K) → List (Line K)
+  lines_after line =
+      option_map_or (λ x. appended (length ledger) sheet.ledger.used x (take sheet.ledger.used ledger)) line
       (take sheet.ledger.used ledger)
 
   module _ (r : Reading) (q : Ok r ≡ admitted (lent hot memo ledger) (bare sheet hot memo ledger) s) (n : ℕ) (told : n ≡ number key) where
-    module _ (c : false ≡ conflict number σ s r.time n) (note : Bool) (new : note ≡ new_line number σ r.mode s n) where
-      new_is : note ≡ new_line number σ r.mode s (number key)
-      new_is = new ∙ ap (new_line number σ r.mode s) told
+    module _ (c : false ≡ conflict number σ s r.time n) (line : Option (Line K)) (new : line ≡ then_some (new_line number σ r.mode s n) (record { session = s; key = key })) where
+      new_is : line ≡ then_some (new_line number σ r.mode s (number key)) (record { session = s; key = key })
+      new_is = new ∙ ap (λ k. then_some (new_line number σ r.mode s k) (record { session = s; key = key })) told
 
       apart : cond (new_line number σ r.mode s (number key) && ledger_full σ) (refused refusal.LedgerFull (untold σ)) (drops_lined r.mode r.time)
           ≡ drop_rule number (lent hot memo ledger) σ s key
       apart =
           sym (cond-false _ _ _ (sym (c ∙ ap (conflict number σ s r.time) told))) ∙ is_admitted (lent hot memo ledger) σ (untold σ) s drops q
 
-      pub drop_short : true ≡ (note && leb sheet.ledger.length sheet.ledger.used)
+      pub drop_short : true ≡ (is_some line && leb sheet.ledger.length sheet.ledger.used)
           → refused refusal.LedgerFull (untold σ) ≡ drop_rule number (lent hot memo ledger) σ s key
       drop_short h =
-          sym (cond-true _ _ _ (short_is number sheet hot memo ledger es limit admits s key r q note new_is ∙ sym h)) ∙ apart
+          sym (cond-true _ _ _ (short_is number sheet hot memo ledger es limit admits s key r q line new_is ∙ sym h)) ∙ apart
 
-      module _ (h : false ≡ (note && leb sheet.ledger.length sheet.ledger.used)) where
+      module _ (h : false ≡ (is_some line && leb sheet.ledger.length sheet.ledger.used)) where
         lined : drops_lined r.mode r.time ≡ drop_rule number (lent hot memo ledger) σ s key
-        lined = sym (cond-false _ _ _ (short_is number sheet hot memo ledger es limit admits s key r q note new_is ∙ sym h)) ∙ apart
+        lined = sym (cond-false _ _ _ (short_is number sheet hot memo ledger es limit admits s key r q line new_is ∙ sym h)) ∙ apart
 
-        noted_lines : {lines : List (Line K)} → lines ≡ lines_after note
+        noted_lines : {lines : List (Line K)} → lines ≡ lines_after line
             → lines ≡ cond (new_line number σ r.mode s (number key)) (σ.ledger ++ one (record { session = s; key = key })) σ.ledger
-        noted_lines e = lines_are number sheet hot memo ledger es limit admits s key r q note new_is h e
+        noted_lines e = lines_are number sheet hot memo ledger es limit admits s key r q line new_is h e
 
         pub dropped_own : (i : ℕ) → Some i ≡ position (hot_own number s n) σ.hot → {rows : List (HotRow K R)} → rows ≡ remove σ.hot i
-            → {lines : List (Line K)} → lines ≡ lines_after note
+            → {lines : List (Line K)} → lines ≡ lines_after line
             → served (answer.Was true) (with_tables (untold σ) rows σ.memo lines) ≡ drop_rule number (lent hot memo ledger) σ s key
         dropped_own i e {rows} f {lines} l =
             let own = hot_own number s (number key) in
@@ -105,7 +107,7 @@ module _ {K R : Type 0} (number : K → ℕ) (sheet : Sheet) (hot : List (HotRow
               → {was : Bool} → was ≡ is_some l.seen
               → {ended : List (HotRow K R)} → ended ≡ ended_hot x s hot
               → {notices : List (Notice K)} → notices ≡ ended_memo (length memo) sheet.memo.used x s key σ.memo
-              → {lines : List (Line K)} → lines ≡ lines_after note
+              → {lines : List (Line K)} → lines ≡ lines_after line
               → served (answer.Was was) (with_tables (with_finds σ l.finds) (take sheet.hot.used ended) notices lines)
               ≡ drop_rule number (lent hot memo ledger) σ s key
           drop_served {x} z {was} w {ended} a {notices} b {lines} d =

@@ -1,6 +1,8 @@
 -- The ledger's lines, and how read leaves, each way against the rule.
-use Rattle.std.proofs.Common.{◌≡◌, ℕ, ◌≤◌, Bool, true, false, cond, ◌&&◌, leb, List, ◌++◌, length, take, Ok, Option, sym, refl, ap, ◌∙◌, option_map}
+use Rattle.std.proofs.Common.{◌≡◌, ℕ, ◌≤◌, Bool, true, false, cond, ◌&&◌, leb, List, ◌++◌, length, take, Ok, Option, sym, refl, ap, ◌∙◌, option_map, is_some, Some, None}
 use Rattle.std.proofs.lemmas.Bool.{cond-true, cond-false, leb-false}
+use Rattle.std.specs.Option.{option_map_or}
+use Rattle.std.specs.Bool.{then_some}
 use Rattle.slots.specs.Lists.{one, appended, count_with}
 use Rattle.slots.proofs.Slots.{appended_more}
 use Rattle.cold.specs.Cold.{Entry}
@@ -25,14 +27,23 @@ use Rattle.seller.proofs.Admission.{is_admitted, entered}
 use Rattle.seller.proofs.Parts.{with_count}
 
 -- a line that is to be entered goes to the end, where the ledger has room for it
-pub lined : {K : Type 0} (note : Bool) (room used : ℕ) (x : Line K) (xs : List (Line K)) → false ≡ (note && leb room used)
-    → cond note (appended room used x xs) xs ≡ cond note (xs ++ one x) xs
-lined true room used x xs h = appended_more room used x xs (leb-false room used (sym h))
-lined false room used x xs h = refl
+lined : {K : Type 0} (line : Option (Line K)) (room used : ℕ) (xs : List (Line K)) → false ≡ (is_some line && leb room used)
+    → option_map_or (λ x. appended room used x xs) line xs ≡ option_map_or (λ x. xs ++ one x) line xs
+lined (Some x) room used xs h = appended_more room used x xs (leb-false room used (sym h))
+lined None room used xs h = refl
 
-pub lined_count : (note : Bool) (room used : ℕ) → used ≤ room → cond note (count_with room used) used ≤ room
-lined_count true room used h = with_count room used h
-lined_count false room used h = h
+pub lined_count : {K : Type 0} (line : Option (Line K)) (room used : ℕ) → used ≤ room → option_map_or (λ x. count_with room used) line used ≤ room
+lined_count (Some x) room used h = with_count room used h
+lined_count None room used h = h
+
+-- a value where the test says so
+some_if : {X : Type 0} (b : Bool) (x : X) → is_some (then_some b x) ≡ b
+some_if true x = refl
+some_if false x = refl
+
+map_if : {X Y : Type 0} (b : Bool) (x : X) (f : X → Y) (d : Y) → option_map_or f (then_some b x) d ≡ cond b (f x) d
+map_if true x f d = refl
+map_if false x f d = refl
 
 module _ {K R : Type 0} (number : K → ℕ) (sheet : Sheet) (hot : List (HotRow K R)) (memo : List (Notice K)) (ledger : List (Line K))
     (es : List (Entry R)) (limit : ℕ) (admits : ℕ → Bool) (s : ℕ) (key : K) where
@@ -46,30 +57,31 @@ module _ {K R : Type 0} (number : K → ℕ) (sheet : Sheet) (hot : List (HotRow
       (noted number (with_finds σ (looked number σ s t (number key)).finds) mode s key))
 
   module _ (r : Reading) (q : Ok r ≡ admitted (lent hot memo ledger) (bare sheet hot memo ledger) s)
-      (note : Bool) (new : note ≡ new_line number σ r.mode s (number key)) where
-    pub short_is : (new_line number σ r.mode s (number key) && ledger_full σ) ≡ (note && leb sheet.ledger.length sheet.ledger.used)
+      (line : Option (Line K)) (new : line ≡ then_some (new_line number σ r.mode s (number key)) (record { session = s; key = key })) where
+    pub short_is : (new_line number σ r.mode s (number key) && ledger_full σ) ≡ (is_some line && leb sheet.ledger.length sheet.ledger.used)
     short_is =
-        ap (λ b. b && ledger_full σ) (sym new)
-        ∙ ap (λ n. note && leb sheet.ledger.length n) (entered sheet hot memo ledger s q).ledger_count
+        ap (λ b. b && ledger_full σ) (sym (some_if (new_line number σ r.mode s (number key)) _) ∙ ap is_some (sym new))
+        ∙ ap (λ n. is_some line && leb sheet.ledger.length n) (entered sheet hot memo ledger s q).ledger_count
 
-    pub read_short : true ≡ (note && leb sheet.ledger.length sheet.ledger.used)
+    pub read_short : true ≡ (is_some line && leb sheet.ledger.length sheet.ledger.used)
         → refused refusal.LedgerFull (untold σ) ≡ read_rule number (lent hot memo ledger) σ s key
     read_short h = sym (cond-true _ _ _ (short_is ∙ sym h)) ∙ is_admitted (lent hot memo ledger) σ (untold σ) s reads q
 
-    module _ (h : false ≡ (note && leb sheet.ledger.length sheet.ledger.used)) where
+    module _ (h : false ≡ (is_some line && leb sheet.ledger.length sheet.ledger.used)) where
       -- the ledger after the line
       pub lines_are : {lines : List (Line K)}
-          → lines ≡ cond note (appended (length ledger) sheet.ledger.used (record { session = s; key = key }) (take sheet.ledger.used ledger))
+          → lines ≡ option_map_or (λ x. appended (length ledger) sheet.ledger.used x (take sheet.ledger.used ledger)) line
           (take sheet.ledger.used ledger)
           → lines ≡ cond (new_line number σ r.mode s (number key)) (σ.ledger ++ one (record { session = s; key = key })) σ.ledger
       lines_are e =
           let long = (entered sheet hot memo ledger s q).ledger_long in
-          e ∙ lined note (length ledger) sheet.ledger.used _ _ (h ∙ ap (λ n. note && leb n sheet.ledger.used) (sym long))
-          ∙ ap (λ b. cond b (σ.ledger ++ one (record { session = s; key = key })) σ.ledger) new
+          e ∙ lined line (length ledger) sheet.ledger.used σ.ledger (h ∙ ap (λ n. is_some line && leb n sheet.ledger.used) (sym long))
+          ∙ ap (λ l. option_map_or (λ x. σ.ledger ++ one x) l σ.ledger) new
+          ∙ map_if (new_line number σ r.mode s (number key)) _ (λ x. σ.ledger ++ one x) σ.ledger
 
       pub read_served : (i : ℕ) (l : Looked R) → l ≡ looked_at i (looked number σ s r.time (number key)) → {o : Option R} → o ≡ option_map (λ v. v.row) l.seen
           → {lines : List (Line K)}
-          → lines ≡ cond note (appended (length ledger) sheet.ledger.used (record { session = s; key = key }) (take sheet.ledger.used ledger))
+          → lines ≡ option_map_or (λ x. appended (length ledger) sheet.ledger.used x (take sheet.ledger.used ledger)) line
           (take sheet.ledger.used ledger)
           → served (answer.Row o) (with_ledger (with_finds σ l.finds) lines) ≡ read_rule number (lent hot memo ledger) σ s key
       read_served i l e {o} f {lines} g =

@@ -56,13 +56,15 @@ pub fn drop<K: Key, R: Copy, C: ColdStore<K, R>, F: Filter>(
     if tables.is_conflict(look) {
         return Err(Refusal::Conflict);
     }
-    let note = tables.is_line_new(reading.mode, look);
-    if is_ledger_short(sheet, note) {
+    let line = tables
+        .is_line_new(reading.mode, look)
+        .then_some(Line { session, key });
+    if is_ledger_short(sheet, line) {
         return Err(Refusal::LedgerFull);
     }
     if let Some(at) = tables.own_place(look) {
         let rows = take_out(hot, sheet.hot.used, at);
-        let lines = note_line(ledger, sheet.ledger.used, note, session, key);
+        let lines = note_line(ledger, sheet.ledger.used, line);
         sheet.hot.used = rows;
         sheet.ledger.used = lines;
         return Ok(true);
@@ -70,7 +72,7 @@ pub fn drop<K: Key, R: Copy, C: ColdStore<K, R>, F: Filter>(
     let looked = tables.lookup(cold, filter, reader, &key);
     let ending = ending_of(&tables, number, looked.seen)?;
     let notices = end_version(hot, memo, sheet.memo.used, ending, session, key);
-    let lines = note_line(ledger, sheet.ledger.used, note, session, key);
+    let lines = note_line(ledger, sheet.ledger.used, line);
     sheet.finds = looked.finds;
     sheet.memo.used = notices;
     sheet.ledger.used = lines;

@@ -49,12 +49,14 @@ pub fn read<K: Key, R: Copy, C: ColdStore<K, R>, F: Filter>(
         time: reading.time,
     };
     let number = key.number();
-    let note = tables.is_line_new(reading.mode, Look { reader, number });
-    if is_ledger_short(sheet, note) {
+    let line = tables
+        .is_line_new(reading.mode, Look { reader, number })
+        .then_some(Line { session, key });
+    if is_ledger_short(sheet, line) {
         return Err(Refusal::LedgerFull);
     }
     let looked = tables.lookup(cold, filter, reader, &key);
-    let lines = note_line(ledger, sheet.ledger.used, note, session, key);
+    let lines = note_line(ledger, sheet.ledger.used, line);
     sheet.finds = looked.finds;
     sheet.ledger.used = lines;
     Ok(looked.row())

@@ -1,4 +1,5 @@
 use Rattle.std.proofs.Common.{leb, length, sym, refl, ap, ◌∙◌, arith}
+use Rattle.std.specs.Bool.{then_some}
 use Rattle.rules.specs.Told.{told_was}
 use Rattle.seller.proofs.Admission.{entered}
 use Rattle.seller.proofs.Drops.{drop_short, dropped_own, drop_unnoted, drop_served}
@@ -12,7 +13,7 @@ returns-then-is_ledger_short-clause-after g c =
     let given = drop_short g.K.Key.number c.args.sheet.now c.args.hot.now c.args.memo.now c.args.ledger.now
     (g.C.ColdStore.entries c.args.cold.now) (g.C.ColdStore.limit c.args.cold.now) (g.F.Filter.admitted c.args.filter.now)
     c.args.session c.args.key c.in_ok-reading.reading c.in_ok-reading.ensures c.number-number.result c.number-number.ensures
-    c.if-is_conflict.ensures c.is_line_new-note.result c.is_line_new-note.ensures c.if-is_ledger_short.ensures in
+    c.if-is_conflict.ensures c.then_some-line.result (c.then_some-line.ensures ∙ ap (λ b. then_some b (record { session = c.args.session; key = c.args.key })) c.is_line_new.ensures) c.if-is_ledger_short.ensures in
     ap after_of given
 
 pub invariant_of-sheet-in-Some : goal.invariant_of-sheet-in-Some
@@ -20,7 +21,7 @@ invariant_of-sheet-in-Some g c =
     let sheet = c.args.sheet.now in
     let w = entered c.args.sheet.now c.args.hot.now c.args.memo.now c.args.ledger.now c.args.session c.in_ok-reading.ensures in
     let rows = without_count (length c.args.hot.now) sheet.hot.used c.in-Some.at in
-    let lines = lined_count c.is_line_new-note.result (length c.args.ledger.now) sheet.ledger.used
+    let lines = lined_count c.then_some-line.result (length c.args.ledger.now) sheet.ledger.used
     (omega (arith, w.ledger_long, sheet.ledger.fits)) in
     record {
       hot_fits = omega (arith, sheet.hot.fits, c.take_out-rows.ensures.count);
@@ -33,7 +34,7 @@ returns-in-Some g c =
     let given = dropped_own g.K.Key.number c.args.sheet.now c.args.hot.now c.args.memo.now c.args.ledger.now
     (g.C.ColdStore.entries c.args.cold.now) (g.C.ColdStore.limit c.args.cold.now) (g.F.Filter.admitted c.args.filter.now)
     c.args.session c.args.key c.in_ok-reading.reading c.in_ok-reading.ensures c.number-number.result c.number-number.ensures
-    c.if-is_conflict.ensures c.is_line_new-note.result c.is_line_new-note.ensures c.if-is_ledger_short.ensures
+    c.if-is_conflict.ensures c.then_some-line.result (c.then_some-line.ensures ∙ ap (λ b. then_some b (record { session = c.args.session; key = c.args.key })) c.is_line_new.ensures) c.if-is_ledger_short.ensures
     c.in-Some.at c.in-Some.ensures c.take_out-rows.ensures.list c.note_line-lines.ensures.list in
     record { answer = ap answer_of given; after = ap after_of given }
 
@@ -42,7 +43,7 @@ returns-in_err-ending g c =
     let given = drop_unnoted g.K.Key.number c.args.sheet.now c.args.hot.now c.args.memo.now c.args.ledger.now
     (g.C.ColdStore.entries c.args.cold.now) (g.C.ColdStore.limit c.args.cold.now) (g.F.Filter.admitted c.args.filter.now)
     c.args.session c.args.key c.in_ok-reading.reading c.in_ok-reading.ensures c.number-number.result c.number-number.ensures
-    c.if-is_conflict.ensures c.is_line_new-note.result c.is_line_new-note.ensures c.if-is_ledger_short.ensures (sym c.in_default.is ∙ c.own_place.ensures) c.lookup-looked.result c.lookup-looked.ensures
+    c.if-is_conflict.ensures c.then_some-line.result (c.then_some-line.ensures ∙ ap (λ b. then_some b (record { session = c.args.session; key = c.args.key })) c.is_line_new.ensures) c.if-is_ledger_short.ensures (sym c.in_default.is ∙ c.own_place.ensures) c.lookup-looked.result c.lookup-looked.ensures
     (leb c.args.sheet.now.memo.length c.args.sheet.now.memo.used) refl c.in_err-ending.ensures in
     record {
       answer = ap told_was (left_by c.from_residual-in_err-ending.result _ c.from_residual-in_err-ending.ensures.1) ∙ ap answer_of given;
@@ -55,7 +56,7 @@ invariant_of-sheet-2 g c =
     let w = entered c.args.sheet.now c.args.hot.now c.args.memo.now c.args.ledger.now c.args.session c.in_ok-reading.ensures in
     let notices = ended_count c.in_ok-ending.ending (length c.args.memo.now) sheet.memo.used
     (omega (arith, w.memo_long, sheet.memo.fits)) in
-    let lines = lined_count c.is_line_new-note.result (length c.args.ledger.now) sheet.ledger.used
+    let lines = lined_count c.then_some-line.result (length c.args.ledger.now) sheet.ledger.used
     (omega (arith, w.ledger_long, sheet.ledger.fits)) in
     record {
       hot_fits = sheet.hot.fits;
@@ -68,7 +69,7 @@ returns g c =
     let given = drop_served g.K.Key.number c.args.sheet.now c.args.hot.now c.args.memo.now c.args.ledger.now
     (g.C.ColdStore.entries c.args.cold.now) (g.C.ColdStore.limit c.args.cold.now) (g.F.Filter.admitted c.args.filter.now)
     c.args.session c.args.key c.in_ok-reading.reading c.in_ok-reading.ensures c.number-number.result c.number-number.ensures
-    c.if-is_conflict.ensures c.is_line_new-note.result c.is_line_new-note.ensures c.if-is_ledger_short.ensures (sym c.in_default.is ∙ c.own_place.ensures) c.lookup-looked.result c.lookup-looked.ensures
+    c.if-is_conflict.ensures c.then_some-line.result (c.then_some-line.ensures ∙ ap (λ b. then_some b (record { session = c.args.session; key = c.args.key })) c.is_line_new.ensures) c.if-is_ledger_short.ensures (sym c.in_default.is ∙ c.own_place.ensures) c.lookup-looked.result c.lookup-looked.ensures
     (leb c.args.sheet.now.memo.length c.args.sheet.now.memo.used) refl c.in_ok-ending.ensures
     c.is_some.ensures c.end_version-notices.ensures.hot c.end_version-notices.ensures.memo c.note_line-lines-2.ensures.list in
     record { answer = ap answer_of given; after = ap after_of given }

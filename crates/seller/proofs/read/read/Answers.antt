@@ -1,4 +1,5 @@
 use Rattle.std.proofs.Common.{length, take, ap, ◌∙◌, arith}
+use Rattle.std.specs.Bool.{then_some}
 use Rattle.rules.specs.Looking.{hot_sees}
 use Rattle.rules.specs.Selling.{new_line}
 use Rattle.scan.specs.Bare.{bare}
@@ -13,8 +14,9 @@ returns-then-is_ledger_short-clause-after g c =
     let σ = bare c.args.sheet.now c.args.hot.now c.args.memo.now c.args.ledger.now in
     let given = read_short g.K.Key.number c.args.sheet.now c.args.hot.now c.args.memo.now c.args.ledger.now
     (g.C.ColdStore.entries c.args.cold.now) (g.C.ColdStore.limit c.args.cold.now) (g.F.Filter.admitted c.args.filter.now)
-    c.args.session c.args.key c.in_ok-reading.reading c.in_ok-reading.ensures c.is_line_new-note.result
-    (c.is_line_new-note.ensures ∙ ap (λ k. new_line g.K.Key.number σ c.in_ok-reading.reading.mode c.args.session k) c.number-number.ensures)
+    c.args.session c.args.key c.in_ok-reading.reading c.in_ok-reading.ensures c.then_some-line.result
+    (c.then_some-line.ensures ∙ ap (λ b. then_some b (record { session = c.args.session; key = c.args.key }))
+    (c.is_line_new.ensures ∙ ap (λ k. new_line g.K.Key.number σ c.in_ok-reading.reading.mode c.args.session k) c.number-number.ensures))
     c.if-is_ledger_short.ensures in
     ap after_of given
 
@@ -22,7 +24,7 @@ pub invariant_of-sheet-2 : goal.invariant_of-sheet-2
 invariant_of-sheet-2 g c =
     let sheet = c.args.sheet.now in
     let long = (entered c.args.sheet.now c.args.hot.now c.args.memo.now c.args.ledger.now c.args.session c.in_ok-reading.ensures).ledger_long in
-    let bound = lined_count c.is_line_new-note.result (length c.args.ledger.now) sheet.ledger.used (omega (arith, sheet.ledger.fits)) in
+    let bound = lined_count c.then_some-line.result (length c.args.ledger.now) sheet.ledger.used (omega (arith, sheet.ledger.fits)) in
     record { hot_fits = sheet.hot.fits; memo_fits = sheet.memo.fits; ledger_fits = omega (arith, c.note_line-lines.ensures.count) }
 
 pub returns : goal.returns
@@ -32,8 +34,9 @@ returns g c =
     let sees = hot_sees g.K.Key.number c.args.session c.in_ok-reading.reading.time (g.K.Key.number c.args.key) in
     let given = read_served g.K.Key.number c.args.sheet.now c.args.hot.now c.args.memo.now c.args.ledger.now
     (g.C.ColdStore.entries c.args.cold.now) (g.C.ColdStore.limit c.args.cold.now) (g.F.Filter.admitted c.args.filter.now)
-    c.args.session c.args.key c.in_ok-reading.reading c.in_ok-reading.ensures c.is_line_new-note.result
-    (c.is_line_new-note.ensures ∙ ap (λ k. new_line g.K.Key.number σ c.in_ok-reading.reading.mode c.args.session k) c.number-number.ensures)
+    c.args.session c.args.key c.in_ok-reading.reading c.in_ok-reading.ensures c.then_some-line.result
+    (c.then_some-line.ensures ∙ ap (λ b. then_some b (record { session = c.args.session; key = c.args.key }))
+    (c.is_line_new.ensures ∙ ap (λ k. new_line g.K.Key.number σ c.in_ok-reading.reading.mode c.args.session k) c.number-number.ensures))
     c.if-is_ledger_short.ensures (position_or_len sees rows) c.lookup-looked.result c.lookup-looked.ensures c.row.ensures
     c.note_line-lines.ensures.list in
     record { answer = ap answer_of given; after = ap after_of given }
