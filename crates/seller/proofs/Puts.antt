@@ -1,6 +1,6 @@
 -- How put leaves, each way against the rule.
-use Rattle.std.proofs.Common.{◌≡◌, ℕ, ◌<◌, ◌≤◌, Bool, false, cond, leb, List, ◌++◌, length, take, Some, None, Ok, Err, Result, sym, refl, ap, ◌∙◌, arith, position, Option}
-use Rattle.std.proofs.lemmas.Bool.{cond-true, cond-false, le-leb, lt-leb}
+use Rattle.std.proofs.Common.{◌≡◌, ℕ, Bool, true, false, cond, leb, List, ◌++◌, length, take, Some, None, Ok, Err, Result, sym, refl, ap, ◌∙◌, arith, position, Option}
+use Rattle.std.proofs.lemmas.Bool.{cond-true, cond-false, leb-false}
 use Rattle.slots.specs.Lists.{any, one, at_first, changed_at, appended}
 use Rattle.slots.proofs.Slots.{take_changed, appended_more}
 use Rattle.cold.specs.Cold.{Entry}
@@ -65,19 +65,19 @@ module _ {K R : Type 0} (number : K → ℕ) (sheet : Sheet) (hot : List (HotRow
             let own = hot_own number s (number key) in
             sym (cond-false _ _ _ (placed_none own σ.hot (o ∙ ap (λ k. position (hot_own number s k) σ.hot) told))) ∙ apart
 
-        pub put_full : sheet.hot.length ≤ sheet.hot.used
+        pub put_full : true ≡ leb sheet.hot.length sheet.hot.used
             → refused refusal.HotFull (untold σ) ≡ put_rule number (lent hot memo ledger) σ s key row
         put_full h =
             let w = entered sheet hot memo ledger s q in
-            sym (cond-true _ _ _ (le-leb sheet.hot.length (length σ.hot) (omega (arith, w.hot_count)))) ∙ unowned
+            sym (cond-true _ _ _ (ap (leb sheet.hot.length) w.hot_count ∙ sym h)) ∙ unowned
 
-        module _ (h : sheet.hot.used < sheet.hot.length) (l : Looked R)
+        module _ (h : false ≡ leb sheet.hot.length sheet.hot.used) (l : Looked R)
             (e : l ≡ looked_at (position_or_len (hot_sees number s r.time (number key)) σ.hot) (looked number σ s r.time (number key)))
             (full : Bool) (f : full ≡ leb sheet.memo.length sheet.memo.used) where
           free : put_seen number σ s r.time key row (looked number σ s r.time (number key)) ≡ put_rule number (lent hot memo ledger) σ s key row
           free =
               let w = entered sheet hot memo ledger s q in
-              sym (cond-false _ _ _ (lt-leb sheet.hot.length (length σ.hot) (omega (arith, w.hot_count)))) ∙ unowned
+              sym (cond-false _ _ _ (ap (leb sheet.hot.length) w.hot_count ∙ sym h)) ∙ unowned
 
           seen : {x : Result (Option Ending) Refusal} → x ≡ ending_of number full σ.memo n l.seen
               → by_ending number (with_finds σ l.finds) s r.time key (λ e. refused e (untold σ))
@@ -99,6 +99,7 @@ module _ {K R : Type 0} (number : K → ℕ) (sheet : Sheet) (hot : List (HotRow
               → served answer.Done (with_tables (with_finds σ l.finds) rows notices σ.ledger) ≡ put_rule number (lent hot memo ledger) σ s key row
           put_served {x} z ended g m {rows} a {notices} b =
               let w = entered sheet hot memo ledger s q in
+              let below = leb-false sheet.hot.length sheet.hot.used (sym h) in
               let rows_are : rows ≡ ended_hot x s σ.hot ++ one (new_row s key row) =
               a ∙ appended_more (length ended) sheet.hot.used _ _ (omega (arith, w.hot_long))
               ∙ ap (λ y. take sheet.hot.used y ++ one (new_row s key row)) g

@@ -11,7 +11,7 @@ use slots::count::append;
 pub(crate) fn is_ledger_short<K: Key>(sheet: &Sheet, line: Option<Line<K>>) -> bool
     ensures { result ≡ is_some line && nat_le sheet.now.ledger.length sheet.now.ledger.used }
 {
-    line.is_some() && sheet.ledger.length <= sheet.ledger.used
+    line.is_some() && sheet.ledger.is_full()
 }
 
 // Enters a line where there is one to be entered, and answers how many there are then.

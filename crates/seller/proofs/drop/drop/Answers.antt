@@ -3,9 +3,8 @@ use Rattle.std.specs.Bool.{then_some}
 use Rattle.rules.specs.Told.{told_was}
 use Rattle.seller.proofs.Admission.{entered}
 use Rattle.seller.proofs.Drops.{drop_short, dropped_own, drop_unnoted, drop_served}
-use Rattle.seller.proofs.Endings.{ended_count}
 use Rattle.seller.proofs.Looks.{lined_count}
-use Rattle.seller.proofs.Parts.{answer_of, after_of, left_by, without_count}
+use Rattle.seller.proofs.Parts.{answer_of, after_of, left_by}
 use Rattle.seller.proofs.drop.drop.Goals as goal
 
 pub returns-then-is_ledger_short-clause-after : goal.returns-then-is_ledger_short-clause-after
@@ -20,14 +19,9 @@ pub invariant_of-sheet-in-Some : goal.invariant_of-sheet-in-Some
 invariant_of-sheet-in-Some g c =
     let sheet = c.args.sheet.now in
     let w = entered c.args.sheet.now c.args.hot.now c.args.memo.now c.args.ledger.now c.args.session c.in_ok-reading.ensures in
-    let rows = without_count (length c.args.hot.now) sheet.hot.used c.in-Some.at in
     let lines = lined_count c.then_some-line.result (length c.args.ledger.now) sheet.ledger.used
     (omega (arith, w.ledger_long, sheet.ledger.fits)) in
-    record {
-      hot_fits = omega (arith, sheet.hot.fits, c.take_out-rows.ensures.count);
-      memo_fits = sheet.memo.fits;
-      ledger_fits = omega (arith, w.ledger_long, c.note_line-lines.ensures.count);
-    }
+    record { fits = omega (arith, w.ledger_long, c.note_line-lines.ensures.count) }
 
 pub returns-in-Some : goal.returns-in-Some
 returns-in-Some g c =
@@ -48,20 +42,6 @@ returns-in_err-ending g c =
     record {
       answer = ap told_was (left_by c.from_residual-in_err-ending.result _ c.from_residual-in_err-ending.ensures.1) ∙ ap answer_of given;
       after = ap after_of given;
-    }
-
-pub invariant_of-sheet-2 : goal.invariant_of-sheet-2
-invariant_of-sheet-2 g c =
-    let sheet = c.args.sheet.now in
-    let w = entered c.args.sheet.now c.args.hot.now c.args.memo.now c.args.ledger.now c.args.session c.in_ok-reading.ensures in
-    let notices = ended_count c.in_ok-ending.ending (length c.args.memo.now) sheet.memo.used
-    (omega (arith, w.memo_long, sheet.memo.fits)) in
-    let lines = lined_count c.then_some-line.result (length c.args.ledger.now) sheet.ledger.used
-    (omega (arith, w.ledger_long, sheet.ledger.fits)) in
-    record {
-      hot_fits = sheet.hot.fits;
-      memo_fits = omega (arith, w.memo_long, c.end_version-notices.ensures.count);
-      ledger_fits = omega (arith, w.ledger_long, c.note_line-lines-2.ensures.count);
     }
 
 pub returns : goal.returns

@@ -20,12 +20,12 @@ returns-then-is_ledger_short-clause-after g c =
     c.if-is_ledger_short.ensures in
     ap after_of given
 
-pub invariant_of-sheet-2 : goal.invariant_of-sheet-2
-invariant_of-sheet-2 g c =
+pub invariant_of-sheet : goal.invariant_of-sheet
+invariant_of-sheet g c =
     let sheet = c.args.sheet.now in
     let long = (entered c.args.sheet.now c.args.hot.now c.args.memo.now c.args.ledger.now c.args.session c.in_ok-reading.ensures).ledger_long in
     let bound = lined_count c.then_some-line.result (length c.args.ledger.now) sheet.ledger.used (omega (arith, sheet.ledger.fits)) in
-    record { hot_fits = sheet.hot.fits; memo_fits = sheet.memo.fits; ledger_fits = omega (arith, c.note_line-lines.ensures.count) }
+    record { fits = omega (arith, c.note_line-lines.ensures.count) }
 
 pub returns : goal.returns
 returns g c =
