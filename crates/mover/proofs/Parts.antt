@@ -1,5 +1,5 @@
 -- The counts and lengths of lent tables, and an edit of a list where none passes.
-use Rattle.std.proofs.Common.{◌≡◌, ℕ, ◌<◌, ◌≤◌, min, Bool, true, false, ltb, leb, List, [], ◌∷◌, length, take, sym, refl, ap, inl, inr, arith}
+use Rattle.std.proofs.Common.{◌≡◌, ℕ, ◌≤◌, min, Bool, true, false, ltb, leb, List, [], ◌∷◌, length, take, sym, refl, ap, inl, inr, arith}
 use Rattle.std.proofs.lemmas.List.{length-take-le}
 use Rattle.std.proofs.lemmas.Bool.{cases_Bool, and_parts, eqb-true, cond_both}
 use Rattle.slots.specs.Lists.{any, at_first, count_without}
