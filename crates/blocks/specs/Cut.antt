@@ -1,11 +1,11 @@
 -- Bytes cut into blocks of one width.
-use Rattle.std.specs.Prelude.{◌≡◌, ℕ, zero, suc, ◌+◌, ◌*◌, ◌<◌, ◌≤◌, Bool, true, cond, List, [], ◌∷◌, ◌++◌, map, length, take, drop, replicate, slice_index_or, slice_set}
+use Rattle.std.specs.Prelude.{◌≡◌, ℕ, zero, suc, ◌+◌, ◌*◌, ◌<◌, ◌≤◌, Bool, true, false, cond, List, [], ◌∷◌, ◌++◌, map, length, take, drop, replicate, slice_index_or, slice_set}
 use Rattle.std.proofs.Math.Path.{refl, ap}
 use Rattle.std.proofs.Common.{sym, ◌∙◌, zero-add, mul-zero, add_assoc}
 use native.Mathlib.Omega.{arith}
 use Rattle.std.proofs.Math.Nat.{mul-suc}
-use Rattle.std.proofs.lemmas.List.{take_at, drop_at, take-take, take-append-le, drop-append-le, drop-take, drop-drop, take-set-le, drop-set-lt, drop-set-add, length-take, length-replicate, replicate-append-replicate, length-drop}
-use Rattle.std.proofs.lemmas.Bool.{and_parts, and_from}
+use Rattle.std.proofs.lemmas.List.{take_at, drop_at, take-take, take-append-le, drop-append-le, drop-take, drop-drop, drop_more, drop_all, take-set-le, drop-set-lt, drop-set-add, length-take, length-replicate, replicate-append-replicate, length-drop}
+use Rattle.std.proofs.lemmas.Bool.{cond-true, cond-false, and_parts, and_from}
 use Rattle.std.specs.List.{prefix_len}
 use Rattle.cold.specs.Lists.{all}
 use Rattle.blocks.specs.Blocks.{written, cut, part}
@@ -78,6 +78,32 @@ cut_put w (suc n) (suc i) k at xs x h l e =
     ∙ ap (λ a. take w xs ∷ cut w n (drop w (slice_set xs a x))) z ∙ ap (λ ys. take w xs ∷ cut w n ys) (drop-set-add w xs (w * i + k) x)
     ∙ ap (λ ys. take w xs ∷ ys) (cut_put w n i k (w * i + k) (drop w xs) x (omega arith) l refl)
     ∙ ap (λ b. take w xs ∷ slice_set (cut w n (drop w xs)) i (slice_set b k x)) b
+
+-- the first that does not pass, in a loop
+module _ {X : Type 0} (p : X → Bool) (xs : List X) (i : ℕ) (x d : X) (e : i + prefix_len p (drop i xs) ≡ prefix_len p xs) (h : i < length xs)
+    (r : x ≡ slice_index_or xs i d) where
+  pub front_here : p x ≡ false → i ≡ prefix_len p xs
+  front_here f =
+      let d : prefix_len p (drop i xs) ≡ 0 = ap (prefix_len p) (drop_more xs i d h) ∙ ap (λ y. prefix_len p (y ∷ drop (i + 1) xs)) (sym r)
+      ∙ cond-false (p x) _ 0 f in
+      omega arith
+
+  pub front_more : p x ≡ true → i + 1 + prefix_len p (drop (i + 1) xs) ≡ prefix_len p xs
+  front_more f =
+      let d : prefix_len p (drop i xs) ≡ 1 + prefix_len p (drop (i + 1) xs) = ap (prefix_len p) (drop_more xs i d h)
+      ∙ ap (λ y. prefix_len p (y ∷ drop (i + 1) xs)) (sym r) ∙ cond-true (p x) _ 0 f in
+      omega arith
+
+pub front_none : {X : Type 0} (p : X → Bool) (xs : List X) (i : ℕ) → i + prefix_len p (drop i xs) ≡ prefix_len p xs → length xs ≤ i → i ≡ prefix_len p xs
+front_none p xs i e h = let d : prefix_len p (drop i xs) ≡ 0 = ap (prefix_len p) (drop_all i xs h) in omega arith
+
+pub front_le : {X : Type 0} (p : X → Bool) (xs : List X) → prefix_len p xs ≤ length xs
+front_le p [] = omega arith
+front_le p (x ∷ xs) = go (p x) (front_le p xs)
+  where
+    go : (b : Bool) → prefix_len p xs ≤ length xs → cond b (1 + prefix_len p xs) 0 ≤ suc (length xs)
+    go true h = omega arith
+    go false h = omega arith
 
 pub prefix_over : {X Y : Type 0} (f : X → Y) (p : Y → Bool) (q : X → Bool) (xs : List X) → ((x : X) → p (f x) ≡ q x)
     → prefix_len p (map f xs) ≡ prefix_len q xs

@@ -1,14 +1,17 @@
 -- The entries of cells, when one cell is filled or cleared.
-use Rattle.std.specs.Prelude.{◌≡◌, ℕ, zero, suc, ◌+◌, ◌<◌, ◌≤◌, Bool, true, false, cond, not, ◌||◌, List, [], ◌∷◌, length, Some, None, Option, ◌==◌, slice_index_or, slice_set}
+use Rattle.std.specs.Prelude.{◌≡◌, ℕ, zero, suc, ◌+◌, ◌<◌, ◌≤◌, Bool, true, false, cond, not, ◌||◌, List, [], ◌∷◌, length, drop, Some, None, Option, ◌==◌, slice_index_or, slice_set}
 use Rattle.std.proofs.Math.Path.{refl, sym, ap}
 use Rattle.std.proofs.Common.{◌∙◌}
 use native.Mathlib.Omega.{arith}
+use Rattle.std.proofs.lemmas.List.{drop_more}
 use Rattle.std.proofs.lemmas.Bool.{and_parts, or_parts, or_left, eqb-true}
 use Rattle.std.specs.List.{prefix_len}
 use Rattle.cold.specs.Lists.{any}
-use Rattle.cold.specs.Cold.{Entry, in_order, is_of, is_there, put_in, removed_after}
+use Rattle.cold.specs.Cold.{Entry, in_order, is_of, is_there, put_in, removed_after, told}
+use Rattle.cold.specs.declared.store.Found.{Found}
 use Rattle.cold.proofs.PutIn.{put_in_comm, any_put_in, order_back, removed_put_in, length_put_in}
-use Rattle.blocks.specs.Cells.{gathered}
+use Rattle.cold.proofs.Places.{nearer, found_by, found_put_in}
+use Rattle.blocks.specs.Cells.{gathered, with_cell}
 
 module _ {R : Type 0} where
   -- a cell has an entry, and the entry of a key number and tag
@@ -19,6 +22,10 @@ module _ {R : Type 0} where
   abbrev pub has : ℕ → ℕ → Option (Entry R) → Bool
   has n t None = false
   has n t (Some e) = is_of n t e
+
+  abbrev pub told_cell : Option (Entry R) → Option (Found R)
+  told_cell None = None
+  told_cell (Some e) = Some (told e)
 
   there_put_in : (n t : ℕ) (e : Entry R) (es : List (Entry R)) → is_there n t (put_in e es) ≡ (is_of n t e || is_there n t es)
   there_put_in n t e es = any_put_in (is_of n t) e es
@@ -108,3 +115,13 @@ module _ {R : Type 0} where
         sym (ap (λ es. removed_after es n t) g ∙ removed_put_in n t f.0 (gathered (slice_set cs i None)) f.2
             (there_same n t f.0 (gathered (slice_set cs i None)) f.2 k)),
       )
+
+  -- one more cell, from the end
+  pub found_more : (n t : ℕ) (cs : List (Option (Entry R))) (i : ℕ) → i < length cs
+      → found_by n t (gathered (drop i cs)) ≡ nearer n t (slice_index_or cs i None) (found_by n t (gathered (drop (i + 1) cs)))
+  unfolding gathered
+  found_more n t cs i h = ap (λ ds. found_by n t (gathered ds)) (drop_more cs i None h) ∙ go (slice_index_or cs i None)
+    where
+      go : (c : Option (Entry R)) → found_by n t (with_cell c (gathered (drop (i + 1) cs))) ≡ nearer n t c (found_by n t (gathered (drop (i + 1) cs)))
+      go None = refl
+      go (Some e) = found_put_in n t e (gathered (drop (i + 1) cs))

@@ -30,9 +30,23 @@ nth_prefix p d f (x ∷ xs) = go (p x) (nth_prefix p d f xs)
 pub below_trans : (a s b t c u : ℕ) → below_by a s b t ≡ true → below_by b t c u ≡ true → below_by a s c u ≡ true
 below_trans a s b t c u e f = grind (arith, nat_tests)
 
+-- the better answer of an entry and what was found so far
+module _ {R : Type 0} where
+  abbrev closer : Entry R → Option (Found R) → Option (Found R)
+  closer e None = Some (told e)
+  closer e (Some f) = cond (leb e.tag f.tag) (Some (told e)) (Some f)
+
+  abbrev pub nearer : ℕ → ℕ → Option (Entry R) → Option (Found R) → Option (Found R)
+  nearer n t None f = f
+  nearer n t (Some e) f = cond (is_own n t e) (closer e f) f
+
 module _ {R : Type 0} (n t : ℕ) where
   abbrev low : Entry R → Bool
   low x = below_by x.number x.tag n t
+
+  -- what a find reads at the place
+  abbrev pub found_by : List (Entry R) → Option (Found R)
+  found_by es = nth es (place n t es) None (of_key n)
 
   -- what is there stands at its place
   seek_there : (es : List (Entry R)) → in_order es ≡ true → seek low false (is_of n t) es ≡ is_there n t es
@@ -69,7 +83,7 @@ module _ {R : Type 0} (n t : ℕ) where
           let w : own n t xs ≡ [] = kept_none (before x) (is_own n t) xs al (λ y s. grind (arith, nat_tests)) in
           ap first_of (sym (cond-false _ (x ∷ own n t xs) _ z ∙ w))
 
-  pub found_at : (es : List (Entry R)) → in_order es ≡ true → nth es (place n t es) None (of_key n) ≡ found es n t
+  pub found_at : (es : List (Entry R)) → in_order es ≡ true → found_by es ≡ found es n t
   found_at es o = nth_prefix low None (of_key n) es ∙ seek_own es o
 
   -- what is there is taken out at its place
@@ -86,6 +100,34 @@ module _ {R : Type 0} (n t : ℕ) where
       go true false f g al h i = rw one-add (ap (λ ys. x ∷ ys) (i h))
       go false true f g al h i = sym (removed_none n t xs (all_none (before x) (is_of n t) xs al (λ y w. grind (arith, nat_tests))))
       go false false f g al h i = absurd (both_ways (is_there n t xs) (all_none (before x) (is_of n t) xs al (λ y w. grind (arith, nat_tests))) h)
+
+  -- what is found after one went in, in any order
+  seek_found : (e : Entry R) (es : List (Entry R)) → seek low None (of_key n) (put_in e es) ≡ nearer n t (Some e) (seek low None (of_key n) es)
+  unfolding seek put_in
+  seek_found e [] = grind (arith, nat_tests)
+  seek_found e (x ∷ xs) = go (before x e) refl (seek_found e xs)
+    where
+      pass : (s : Option (Found R)) (l q : Bool) → low x ≡ l → eqb x.number n ≡ q → before x e ≡ true
+          → cond l (nearer n t (Some e) s) (cond q (Some (told x)) None) ≡ nearer n t (Some e) (cond l s (cond q (Some (told x)) None))
+      pass s true q f g h = refl
+      pass s false true f g h = grind (arith, nat_tests)
+      pass s false false f g h = grind (arith, nat_tests)
+
+      stop : (s : Option (Found R)) (l q : Bool) → low x ≡ l → eqb x.number n ≡ q → before x e ≡ false
+          → cond (low e) (cond l s (cond q (Some (told x)) None)) (of_key n e) ≡ nearer n t (Some e) (cond l s (cond q (Some (told x)) None))
+      stop s true q f g h = grind (arith, nat_tests)
+      stop s false true f g h = grind (arith, nat_tests)
+      stop s false false f g h = grind (arith, nat_tests)
+
+      go : (b : Bool) → before x e ≡ b → seek low None (of_key n) (put_in e xs) ≡ nearer n t (Some e) (seek low None (of_key n) xs)
+          → seek low None (of_key n) (cond b (x ∷ put_in e xs) (e ∷ (x ∷ xs))) ≡ nearer n t (Some e)
+          (cond (low x) (seek low None (of_key n) xs) (of_key n x))
+      go true h i = rw i (pass (seek low None (of_key n) xs) (low x) (eqb x.number n) refl refl h)
+      go false h i = stop (seek low None (of_key n) xs) (low x) (eqb x.number n) refl refl h
+
+  pub found_put_in : (e : Entry R) (es : List (Entry R)) → found_by (put_in e es) ≡ nearer n t (Some e) (found_by es)
+  found_put_in e es = nth_prefix low None (of_key n) (put_in e es) ∙ seek_found e es
+      ∙ ap (nearer n t (Some e)) (sym (nth_prefix low None (of_key n) es))
 
 -- a table in order is parted by what comes before a key number and tag
 pub parted : {X : Type 0} (num tag : X → ℕ) (n t : ℕ) (xs : List X) → rise (λ y z. below_by (num y) (tag y) (num z) (tag z)) xs ≡ true

@@ -83,15 +83,6 @@ module _ (words : List ℕ) (h : ℕ) (l : length words ≡ 64) where
   bloom_with k = three (bits_with (first_place k)) (bits_with (second_place k)) (bits_with (third_place k))
 
 module _ (words : List ℕ) (h : ℕ) where
-  -- a number's own places are set
-  pub bloom_has : in_bloom_with words h h ≡ true
-  bloom_has =
-      and_from _ _ (or_right (eqb (first_place h) (third_place h)) _ (or_right (eqb (first_place h) (second_place h)) _ (own (first_place h) _)))
-      (and_from _ _ (or_right (eqb (second_place h) (third_place h)) _ (own (second_place h) _)) (own (third_place h) _))
-    where
-      own : (p : ℕ) (b : Bool) → (eqb p p || b) ≡ true
-      own p b = or_left (eqb p p) b (eq-eqb p p refl)
-
   -- what was set stays set
   pub bloom_keeps : (k : ℕ) → in_bloom words k ≡ true → in_bloom_with words h k ≡ true
   bloom_keeps k e =

@@ -1,5 +1,5 @@
-use Rattle.std.proofs.Common.{◌≡◌, ℕ, ◌%◌, ◌<◌, min, max, true, false, ◌&&◌, leb, List, length, get_or, replicate, sym, refl, ap, ◌∙◌, ⊎_elim, arith}
-use Rattle.std.proofs.lemmas.Bool.{and_parts, and_from, cases_eq, eq-eqb, ne_eqb, le-leb, leb-true, cond-true, cond-false}
+use Rattle.std.proofs.Common.{◌≡◌, ℕ, ◌%◌, ◌<◌, min, max, false, ◌&&◌, leb, List, length, get_or, replicate, sym, ap, ◌∙◌, ⊎_elim, arith}
+use Rattle.std.proofs.lemmas.Bool.{cases_eq, eq-eqb, ne_eqb, cond-true, cond-false}
 use Rattle.std.proofs.lemmas.List.{get_or-set_same, get_or-set_other, get_or-replicate}
 use Rattle.std.proofs.lemmas.Bool.Decides.{nat_tests}
 use Rattle.filter.specs.Band.{low_of, high_of, in_band, lows_with, highs_with, in_band_with}
@@ -28,25 +28,3 @@ module _ (lows highs : List ℕ) (h : ℕ) (l : h % 64 < length lows) (m : h % 6
     where
       between : {a b c d : ℕ} → a ≡ c → b ≡ d → (leb a k && leb k b) ≡ (leb c k && leb k d)
       between e f = cc
-
-module _ (lows highs : List ℕ) (h : ℕ) where
-  -- a number lies between the ends that it moved
-  pub band_has : in_band_with lows highs h h ≡ true
-  band_has =
-      cond-true _ _ (in_band lows highs h) (eq-eqb (h % 64) (h % 64) refl)
-      ∙ and_from _ _ (le-leb (min (low_of lows h) h) h (omega arith)) (le-leb h (max (high_of highs h) h) (omega arith))
-
-  -- and so does what lay between the old ends
-  pub band_keeps : (k : ℕ) → in_band lows highs k ≡ true → in_band_with lows highs h k ≡ true
-  band_keeps k e =
-      let p = and_parts (leb (low_of lows k) k) (leb k (high_of highs k)) e in
-      let x = leb-true (low_of lows k) k p.0 in
-      let y = leb-true k (high_of highs k) p.1 in
-      ⊎_elim
-      (λ (f : k % 64 ≡ h % 64).
-      let c = ap (λ i. get_or lows i 0) f in
-      let d = ap (λ i. get_or highs i 0) f in
-      cond-true _ _ (in_band lows highs k) (eq-eqb (k % 64) (h % 64) f)
-      ∙ and_from _ _ (le-leb (min (low_of lows h) h) k (omega arith)) (le-leb k (max (high_of highs h) h) (omega arith)))
-      (λ (f : k % 64 ≡ h % 64 → ⊥). cond-false _ _ (in_band lows highs k) (ne_eqb (k % 64) (h % 64) f) ∙ e)
-      (cases_eq (k % 64) (h % 64))

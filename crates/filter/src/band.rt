@@ -17,7 +17,7 @@ pub struct Band {
 }
 
 impl Band {
-    // The lowest is above the highest everywhere, so no number is admitted.
+    // The lowest is above the highest everywhere, so no number is admitted: an Option of the ends would be one more test in `admits`.
     pub fn new() -> Band
         ensures { (h : ℕ) → in_band (lows result.ends) (highs result.ends) h ≡ false }
     {

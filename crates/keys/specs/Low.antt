@@ -2,7 +2,7 @@ use Rattle.std.specs.Prelude.{◌≡◌, ℕ, zero, suc, ◌+◌, ◌-◌, ◌*�
 use Rattle.std.specs.Int.{w64, from_le_bytes, sum_through, byte_worth}
 use Rattle.std.proofs.Common.{sym, ◌∙◌, ap, arith, lit<, mod-lt, mod-eq_of_lt}
 use Rattle.std.proofs.Math.Nat.{one-le-pow, pow-succ', pow-le-pow_right}
-use Rattle.std.proofs.lemmas.List.{drop-replicate, take_more_set, append_assoc, append-nil, length-drop, take_at, drop_at, length-append, drop_all, length-take, drop-drop, set_split}
+use Rattle.std.proofs.lemmas.List.{drop-replicate, take_more_set, append_assoc, drop_more, append-nil, take_all, length-drop, get_or-drop, take_at, drop_at, length-append, drop_all, length-take, drop-drop, set_split}
 use borrow.Rule.Slice.PartMut.{put_mid, post_of}
 use Rattle.keys.specs.Bytes.{low_bytes, from_low}
 use Rattle.keys.specs.Bytes.{low}
@@ -38,6 +38,23 @@ from_low_lt (b ∷ bs) h =
     let z : b < 256 = h 0 in
     let p : 256 ^ suc (length bs) ≡ 256 * 256 ^ length bs = pow-succ' 256 (length bs) in
     rw p (omega (arith, a, z))
+
+-- one more byte read, from the end
+pub from_low_more : (bs : List ℕ) (i n : ℕ) → 0 < i → i ≤ length bs → n ≡ from_low (drop i bs) → n * 256 + slice_index bs (i - 1) ≡ from_low (drop (i - 1) bs)
+unfolding from_low
+from_low_more bs i n p h e =
+    let d = drop_more bs (i - 1) 0 (omega arith) in
+    let k : i - 1 + 1 ≡ i = omega arith in
+    let d' : drop (i - 1) bs ≡ slice_index bs (i - 1) ∷ drop i bs = d ∙ rw k refl in
+    rw d' (omega (arith, e))
+
+-- what is read from the end of at most eight bytes leaves room for one more
+pub from_low_room : (bs : List ℕ) (i n : ℕ) → ((k : ℕ) → slice_index bs k < 256) → 0 < i → i ≤ length bs → length bs ≤ 8 → n ≡ from_low (drop i bs) → n < 2 ^ 56
+from_low_room bs i n t p h l e =
+    let b = from_low_lt (drop i bs) (λ k. rw get_or-drop (t (i + k))) in
+    let m : length (drop i bs) ≤ 7 = simp length-drop (omega arith) in
+    let q : 256 ^ length (drop i bs) ≤ 256 ^ 7 = pow-le-pow_right (omega arith) m in
+    omega (arith, b, q, e)
 
 -- the first n bytes are written as p, and then ys on the next k
 pub laid_more : (n k : ℕ) (p ys xs cur : List ℕ) → length p ≡ n → cur ≡ p ++ drop n xs → put_mid n k cur ys ≡ (p ++ ys) ++ drop (n + k) xs
@@ -96,6 +113,10 @@ tile3 xs b c k l m n =
 pub low_at : {ys : List ℕ} {n : ℕ} (k x : ℕ) → length ys ≡ n → ys ≡ low_bytes k x → ys ≡ low_bytes n x
 low_at {ys} {n} k x l e =
     let f : k ≡ n = sym (length_low k x) ∙ sym (ap length e) ∙ l in e ∙ rw f refl
+
+-- nothing lies past the end
+pub part_none : (n at : ℕ) (xs : List ℕ) → length xs ≤ at → take n (drop at xs) ≡ []
+part_none n at xs h = let d = drop_all at xs h in ap (take n) d ∙ take_all n [] (omega arith)
 
 pub low_lt : (n : ℕ) (bs : List ℕ) → low n bs < 256 ^ n
 low_lt n bs = mod-lt (from_low (take n bs)) (one-le-pow n 256 (lit< tt))

@@ -3,10 +3,10 @@ ghost use Rattle.std.specs.Prelude.{◌≡◌};
 use rules::answers::Refusal;
 use std::marker::PhantomData;
 
-// How far a move has come: its row is chosen.
+// How far a move has come, as its type says: its row is chosen.
 pub struct Chosen;
 
-// How far a move has come: its row is copied into the cold store.
+// How far a move has come, as its type says: its row is copied into the cold store.
 pub struct Copied;
 
 // A move is one value from choose to its end: only choose makes a `Move<Chosen>`, and only copy a `Move<Copied>`. It can be

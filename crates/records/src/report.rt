@@ -6,6 +6,7 @@ use crate::writing::{push_entry, push_summary};
 use std::alloc::{AllocError, Global};
 
 // All that is written for an archive's text: a line for each of its lines, and how many of them are records.
+// Not one function with that of `loading`, which loads the records and finds them again in between.
 pub fn report(heap: Global, input: &[u8]) -> Result<Vec<u8>, AllocError>
     ensures { IfOk result (λ v. v.items ≡ report_of input.now) }
 {

@@ -83,7 +83,8 @@ impl fmt::Display for BadLine {
     }
 }
 
-// Appends the line that answers an entry.
+// Appends the line that answers an entry. One generic body for this and script's `push_reply` is no plainer: its clause would go by cases
+// over what both types print, and each of the two would still need its own to name the text.
 pub fn push_entry(out: &mut Vec<u8>, entry: &Entry) -> Result<(), AllocError>
     ensures { OnOk result (out.new.items ≡ out.old.items ++ entry_text entry.now) }
 {

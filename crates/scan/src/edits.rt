@@ -6,6 +6,8 @@ use rules::notices::NoticeEvent;
 use rules::tables::{HotRow, MoveMark, Notice};
 use rules::times::Moment;
 
+// The rules change a row and a notice in different ways (a row's begin and move mark, a notice's kind), so each has functions of its own.
+
 // Ends a version with the session's mark.
 pub fn end_row<K, R>(row: &mut HotRow<K, R>, session: u32)
     ensures { row.new ≡ end_row session row.old }

@@ -3,7 +3,7 @@ ghost use Rattle.script.specs.Hand.{allowed};
 
 use crate::request::Request;
 
-// The move in hand: none, one that was chosen, or one that was copied too.
+// The move in hand: none, one that was chosen, or one that was copied too. No Option, since no state holds a value.
 #[derive(Clone, Copy, Debug, PartialEq, Eq)]
 pub enum InHand {
     Nothing,

@@ -53,7 +53,7 @@ fn complete(kind: Kind, mut words: Words<'_>) -> Option<Request>
     }
 }
 
-// Reads a line: the name of a call, its words in their order, and no more.
+// Reads a line: the name of a call, its words in their order, and no more. A line that is no request has nothing more to tell.
 pub fn request(line: &[u8]) -> Option<Request>
     ensures { result ≡ request_of line.now }
 {

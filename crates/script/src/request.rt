@@ -19,8 +19,8 @@ pub enum Kind {
     Collect,
 }
 
-// What a line asks for. A session is named by its number; copy, settle and give-up are of the move in hand, so a request has no tag, as
-// a `rules::answers::Call` has.
+// What a line asks for. A session is named by its number; copy, settle and give-up are of the move in hand, so a request has no tag
+// where a `rules::answers::Call` has one.
 #[derive(Clone, Copy, Debug, PartialEq, Eq)]
 pub enum Request {
     Begin(u32, Mode),

@@ -17,6 +17,7 @@ use scan::tables::Tables;
 use slots::change::edit_all;
 
 // Makes the session's changes last, and answers their stamp: 0 where there are none. A stale read undoes the session.
+// 0 and no Option: the rule answers a number, and callers print it.
 pub fn commit<K: Key, R: Copy>(
     sheet: &mut Sheet,
     hot: &mut [HotRow<K, R>],

@@ -32,6 +32,7 @@ pub fn take_out<T: Copy>(slots: &mut [T], used: usize, at: usize) -> usize
 }
 
 // Keeps the elements that pass, in their order.
+// By place: it writes at one what it reads at another, and no iterator of the library keeps the elements of a slice.
 pub fn retain<T: Copy, P: Fn(&T) -> bool>(slots: &mut [T], used: usize, test: P) -> usize
     requires { P.IsAlwaysCallable test }
     ensures within { result ≤ used }

@@ -1,5 +1,5 @@
 ghost use Rattle.std.specs.Prelude.{◌≡◌, ℕ, ◌≤◌, ◌++◌, IfSome, Some, OnOk};
-ghost use Rattle.text.specs.Numbers.{decimal_of, decimal_text};
+ghost use Rattle.text.specs.Numbers.{decimal_of, decimal_text, digits_within};
 
 use std::alloc::AllocError;
 use std::io::Write;
@@ -25,9 +25,10 @@ pub fn decimal(digits: &[u8], limit: u64) -> Option<u64>
     Some(n)
 }
 
-// Appends a number in decimal. What is written is read back as that number.
+// Appends a number in decimal. What is written is read back as that number, which `write!` alone does not say.
 pub fn push_decimal(out: &mut Vec<u8>, n: u64) -> Result<(), AllocError>
     ensures appended { OnOk result (out.new.items ≡ out.old.items ++ decimal_text n) }
+    ensures digits { decimal_text n ≡ digits_within 20 n }
     ensures back { (limit : ℕ) → n ≤ limit → decimal_of limit (decimal_text n) ≡ Some n }
 {
     write!(out, "{n}").map_err(|_| AllocError)

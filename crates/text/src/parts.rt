@@ -25,6 +25,7 @@ pub(crate) fn split_once(text: &[u8], at: u8) -> Option<(&[u8], &[u8])>
 }
 
 // Gives the parts of a text between its bytes `at`, one after another. Each is a part of the text, not a copy.
+// Not std's `split`: its type holds the type of a closure, so that `Words` could not name it.
 #[derive(Clone, Copy, Debug)]
 pub struct Parts<'a> {
     rest: Option<&'a [u8]>,

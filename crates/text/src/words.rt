@@ -21,7 +21,6 @@ fn name_word<'a>(word: &'a [u8], name: &[u8], value: &'a [u8]) -> Word<'a>
 }
 
 // Reads one word. No byte of it is lost.
-#[tactic(auto, using(crate::proofs::Names::word_back))]
 pub fn read_word(word: &[u8]) -> Word<'_>
     ensures value { meant result ≡ word_of word.now }
     ensures back { spelled (meant result) ≡ word.now }
@@ -58,6 +57,6 @@ impl<'a> Iterator for Words<'a> {
     ghost remaining = { item_count words_left };
 
     fn next(&mut self) -> Option<Word<'a>> {
-        self.parts.next().map(|part| read_word(part))
+        self.parts.next().map(read_word)
     }
 }

@@ -4,10 +4,6 @@ use Rattle.keys.specs.Bytes.{from_low}
 use Rattle.keys.specs.Low.{low_is, low_lt}
 use Rattle.keys.proofs.bytes.low_at.Goals as goal
 
-pub read_all-requires : goal.read_all-requires
-read_all-requires c =
-    let l : length c.part.result.now ≤ c.args.n = rw c.part.ensures (simp length-take (omega arith)) in omega arith
-
 pub returns : goal.returns
 returns c =
     let bytes = drop c.args.at c.args.bytes.now in

@@ -1,5 +1,5 @@
 use Rattle.std.proofs.Common.{ℕ, Bool, length, None, sym, ap, ◌∙◌, arith}
-use Rattle.filter.specs.Band.{in_band}
+use Rattle.filter.specs.Band.{lows, highs, in_band}
 use Rattle.filter.specs.Bloom.{in_bloom}
 use Rattle.text.specs.Parts.{lines}
 use Rattle.records.specs.Entries.{entries}
@@ -19,7 +19,7 @@ load_both-requires c = omega (
 pub returns : goal.returns
 returns c =
     let bloom : ℕ → Bool = λ h. in_bloom c.load_both.new.bloom.words h in
-    let band : ℕ → Bool = λ h. in_band c.load_both.new.band.lows c.load_both.new.band.highs h in
+    let band : ℕ → Bool = λ h. in_band (lows c.load_both.new.band.ends) (highs c.load_both.new.band.ends) h in
     let told = c.in_ok-load_both.ensures in
     let text = report_whole bloom band _ _ _ _ (entries None (lines c.args.input.now)) c.deref.result.now _ _ _ _ _
     c.in-Ok.ensures.made.1 c.in-Ok.ensures.made.0 c.in-Ok-new.ensures.made.1 c.in-Ok-new.ensures.made.0

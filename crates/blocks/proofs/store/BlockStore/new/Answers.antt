@@ -19,16 +19,9 @@ invariant_of-result g c =
       ordered = order_none _ (ap (entries_of g.R.Packed.unpacked c.args.limit) z ∙ new_empty g.R.Packed.unpacked c.args.limit);
     }
 
-pub returns : goal.returns
-returns g c =
+pub returns-clause-made : goal.returns-clause-made
+returns-clause-made g c =
     let k = c.in_ok-bytes.ensures in
     let m : c.args.limit * 32 ≡ 32 * c.args.limit = omega arith in
     let z = k.items_if_clones_equal (λ y e. e) ∙ ap (λ n. replicate n 0) m in
-    record {
-      refused = search rules;
-      made = (
-        ap (entries_of g.R.Packed.unpacked c.args.limit) z
-            ∙ new_empty g.R.Packed.unpacked c.args.limit,
-        refl,
-      );
-    }
+    (ap (entries_of g.R.Packed.unpacked c.args.limit) z ∙ new_empty g.R.Packed.unpacked c.args.limit, refl)

@@ -10,11 +10,7 @@ in_turn : {x y z : List ℕ} {p : ThreePlaces} (w : List ℕ) (n : ℕ) → p �
     → z ≡ with_number w n
 in_turn w n e f g h = cc
 
-pub returns : goal.returns
-returns c =
-    let e = in_turn c.args.self.now.words c.args.number c.places-p.ensures
-    c.set_bit.ensures.words c.set_bit-2.ensures.words c.set_bit-3.ensures.words in
-    record {
-      words = e;
-      admitted = λ h. ap (λ w. in_bloom w h) e ∙ bloom_with c.args.self.now.words c.args.number c.set_bit.ensures.long h;
-    }
+pub returns-clause-admitted : goal.returns-clause-admitted
+returns-clause-admitted c = λ h.
+    let e = in_turn c.args.self.now.words c.args.number c.places-p.ensures c.set_bit.ensures.words c.set_bit-2.ensures.words c.set_bit-3.ensures.words in
+    ap (λ w. in_bloom w h) e ∙ bloom_with c.args.self.now.words c.args.number c.set_bit.ensures.long h
