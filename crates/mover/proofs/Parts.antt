@@ -1,21 +1,18 @@
 -- The counts and lengths of lent tables, and an edit of a list where none passes.
-use Rattle.std.proofs.Common.{◌≡◌, ℕ, ◌<◌, ◌≤◌, min, Bool, true, false, ltb, leb, List, [], ◌∷◌, length, take, sym, refl, ap, inl, inr, arith}
+use Rattle.std.proofs.Common.{◌≡◌, ℕ, ◌≤◌, min, Bool, true, false, ltb, leb, List, [], ◌∷◌, length, take, sym, refl, ap, inl, inr, arith}
 use Rattle.std.proofs.lemmas.List.{length-take-le}
-use Rattle.std.proofs.lemmas.Bool.{cases_Bool, and_parts, eqb-true, le-leb, lt-leb, cond_both}
+use Rattle.std.proofs.lemmas.Bool.{cases_Bool, and_parts, eqb-true, cond_both}
 use Rattle.slots.specs.Lists.{any, at_first, count_without}
+use Rattle.rules.specs.declared.sheet.Room.{Room}
 use Rattle.rules.specs.Stores.{Lengths, same_lengths}
 
 -- lent lengths that are the opening's
 pub memos_are : (a b : Lengths) → true ≡ same_lengths a b → a.memos ≡ b.memos
 memos_are a b e = eqb-true _ _ (and_parts _ _ (and_parts _ _ (sym e)).1).0
 
-module _ {X : Type 0} (room used : ℕ) (xs : List X) (l : length xs ≡ room) (fits : used ≤ room) where
-  -- no slot is left, or one is
-  pub is_full : room ≤ used → leb room (length (take used xs)) ≡ true
-  is_full h = let e = length-take-le used xs (omega arith) in le-leb _ _ (omega arith)
-
-  pub is_free : used < room → leb room (length (take used xs)) ≡ false
-  is_free h = let e = length-take-le used xs (omega arith) in lt-leb _ _ (omega arith)
+-- whether a slot is left, by the list's length as by its count
+pub room_left : {X : Type 0} (room : Room) (xs : List X) → length xs ≡ room.length → leb room.length (length (take room.used xs)) ≡ leb room.length room.used
+room_left room xs l = let h = room.fits in ap (leb room.length) (length-take-le room.used xs (omega arith))
 
 pub count_without_within : (room used at : ℕ) → count_without room used at ≤ used
 count_without_within room used at =

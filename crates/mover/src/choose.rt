@@ -8,15 +8,13 @@ use crate::moves::{Chosen, Move};
 use keys::key::Key;
 use marks::rows::is_movable;
 use rules::answers::{Refusal, Side};
+use rules::limits::LAST_TAG;
 use rules::sheet::Sheet;
 use rules::tables::{HotRow, Kind, Line, MoveMark, Notice};
 use slots::change::edit_at;
 use slots::count::append;
 use slots::search::find_first;
 use std::marker::PhantomData;
-
-// The last tag that a move can have.
-const LAST_TAG: u32 = 4_000_000_000;
 
 // Starts the move of a key's row: marks it chosen with a new tag, and adds the notice that hides its cold entry to be.
 pub fn choose<K: Key, R: Copy>(
@@ -38,14 +36,14 @@ pub fn choose<K: Key, R: Copy>(
         return Err(Refusal::OutOfRange(Side::Mover));
     }
     let number = key.number();
-    let hit = find_first(hot, sheet.hot_used, |row| is_movable(row, number)).ok_or(Refusal::NoRow)?;
+    let hit = find_first(hot, sheet.hot.used, |row| is_movable(row, number)).ok_or(Refusal::NoRow)?;
     if hit.it.mark != MoveMark::Unmoved {
         return Err(Refusal::AlreadyMarked);
     }
     if sheet.last_tag >= LAST_TAG {
         return Err(Refusal::TagsAtEnd);
     }
-    if sheet.memo_used >= sheet.memo_length {
+    if sheet.memo.is_full() {
         return Err(Refusal::MemoFull(Side::Mover));
     }
     let tag = sheet.last_tag + 1;
@@ -57,7 +55,7 @@ pub fn choose<K: Key, R: Copy>(
         begin: 1,
         end: None,
     };
-    sheet.memo_used = append(memo, sheet.memo_used, pending);
+    sheet.memo.used = append(memo, sheet.memo.used, pending);
     sheet.last_tag = tag;
     Ok(Move {
         tag,

@@ -29,6 +29,6 @@ pub fn collect<K: Key, R: Copy>(
         return Err(Refusal::OutOfRange(Side::Mover));
     }
     let horizon = sheet.horizon();
-    sheet.hot_used = retain(hot, sheet.hot_used, |row| !row.is_past(horizon));
+    sheet.hot.used = retain(hot, sheet.hot.used, |row| !row.is_past(horizon));
     Ok(())
 }

@@ -69,7 +69,7 @@ pub fn copy<K: Key, R: Copy, C: ColdStore<K, R>, F: Filter>(
     }
     let found = find_first(
         hot,
-        sheet.hot_used,
+        sheet.hot.used,
         |row| row.mark == MoveMark::Chosen(moving.tag),
     );
     let Some(hit) = found else {

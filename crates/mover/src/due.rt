@@ -31,13 +31,13 @@ pub fn first_due<K: Key, R: Copy>(
     hot: &[HotRow<K, R>],
     memo: &[Notice<K>],
 ) -> Option<Hit<Notice<K>>>
-    ensures { result ≡ hit (due_by sheet.now (take sheet.now.hot_used hot.now))
-        (take sheet.now.memo_used memo.now) }
+    ensures { result ≡ hit (due_by sheet.now (take sheet.now.hot.used hot.now))
+        (take sheet.now.memo.used memo.now) }
 {
     let horizon = sheet.horizon();
-    let notices = listed(memo, sheet.memo_used);
+    let notices = listed(memo, sheet.memo.used);
     for (at, notice) in notices.iter().enumerate() {
-        if is_notice_due(hot, sheet.hot_used, notice, horizon) {
+        if is_notice_due(hot, sheet.hot.used, notice, horizon) {
             return Some(Hit { at, it: *notice });
         }
     }

@@ -35,7 +35,7 @@ pub fn give_up<K: Key, R: Copy, S>(
     let Move { tag, stage: _ } = moving;
     if !edit_first(
         hot,
-        sheet.hot_used,
+        sheet.hot.used,
         |row| bears(row, tag),
         |row| row.mark = MoveMark::Unmoved,
     ) {

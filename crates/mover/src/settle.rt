@@ -6,7 +6,7 @@ ghost use Rattle.mover.specs.Hands.{told_moved, LeftBy};
 
 use crate::moves::{Copied, Move, Stopped};
 use keys::key::Key;
-use marks::notices::{is_for, settle_notice};
+use marks::notices::settle_notice;
 use rules::answers::{Refusal, Side};
 use rules::sheet::Sheet;
 use rules::tables::{HotRow, Line, MoveMark, Notice};
@@ -35,17 +35,17 @@ pub fn settle<K: Key, R: Copy>(
         return Err(Stopped::Kept(moving, Refusal::OutOfRange(Side::Mover)));
     }
     let Move { tag, stage: _ } = moving;
-    let found = find_first(hot, sheet.hot_used, |row| row.mark == MoveMark::Copied(tag));
+    let found = find_first(hot, sheet.hot.used, |row| row.mark == MoveMark::Copied(tag));
     let Some(hit) = found else {
         return Err(Stopped::Over(Refusal::MoveOver));
     };
     let number = hit.it.key.number();
     let begin = hit.it.begin.stamp().unwrap_or(1);
-    sheet.hot_used = take_out(hot, sheet.hot_used, hit.at);
+    sheet.hot.used = take_out(hot, sheet.hot.used, hit.at);
     edit_first(
         memo,
-        sheet.memo_used,
-        |notice| is_for(notice, number, tag),
+        sheet.memo.used,
+        |notice| notice.is_for(number, tag),
         |notice| settle_notice(notice, begin),
     );
     Ok(())

@@ -58,7 +58,7 @@ pub fn sweep<K: Key, R: Copy, C: ColdStore<K, R>>(
     };
     match hit.it.kind.after(NoticeEvent::Empty) {
         None => {
-            sheet.memo_used = take_out(memo, sheet.memo_used, hit.at);
+            sheet.memo.used = take_out(memo, sheet.memo.used, hit.at);
             Ok(Swept::Gone)
         }
         Some(kind) => {

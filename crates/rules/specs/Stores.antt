@@ -20,7 +20,7 @@ same_lengths a b = a.hots == b.hots && (a.memos == b.memos && a.lines == b.lines
 
 -- the lengths of the opening
 abbrev pub lengths_of : Sheet → Lengths
-lengths_of sheet = record { hots = sheet.hot_length; memos = sheet.memo_length; lines = sheet.ledger_length }
+lengths_of sheet = record { hots = sheet.hot.length; memos = sheet.memo.length; lines = sheet.ledger.length }
 
 -- the lengths of lent tables
 abbrev pub lent : {X Y Z : Type 0} → List X → List Y → List Z → Lengths
@@ -49,9 +49,9 @@ store sheet hot memo ledger cold limit admits = record {
   clock = sheet.clock;
   last_tag = sheet.last_tag;
   finds = sheet.finds;
-  hot = take sheet.hot_used hot;
-  memo = take sheet.memo_used memo;
-  ledger = take sheet.ledger_used ledger;
+  hot = take sheet.hot.used hot;
+  memo = take sheet.memo.used memo;
+  ledger = take sheet.ledger.used ledger;
   cold = cold;
   limit = limit;
   admits = admits;

@@ -14,8 +14,8 @@ impl Sheet {
     ) -> bool
         ensures { result ≡ same_lengths (lent hot.now memo.now ledger.now) (lengths_of self.now) }
     {
-        hot.len() == self.hot_length
-            && memo.len() == self.memo_length
-            && ledger.len() == self.ledger_length
+        hot.len() == self.hot.length
+            && memo.len() == self.memo.length
+            && ledger.len() == self.ledger.length
     }
 }

@@ -4,6 +4,7 @@ pub mod answers;
 pub mod cases;
 pub mod horizon;
 pub mod lent;
+pub mod limits;
 pub mod notices;
 pub mod refusals;
 pub mod sessions;

@@ -1,8 +1,10 @@
 ghost use Rattle.std.specs.Prelude.{◌≡◌};
 ghost use Rattle.rules.specs.Notices.{kind_sees, becomes, due_kind};
+ghost use Rattle.rules.specs.Looking.{is_for};
 
 use crate::tables::{Kind, Notice};
 use crate::times::{Moment, Reader};
+use keys::key::Key;
 
 // What happens to a cold entry, and so to its notice.
 #[derive(Clone, Copy, Debug, PartialEq, Eq)]
@@ -58,5 +60,14 @@ impl<K> Notice<K> {
             Kind::E | Kind::BE => self.end.is_some_and(|end| end.is_past(horizon)),
             Kind::X => true,
         }
+    }
+}
+
+impl<K: Key> Notice<K> {
+    // Whether it is that of a cold entry: with its key number and tag.
+    pub fn is_for(&self, number: u64, tag: u32) -> bool
+        ensures { result ≡ is_for K.Key.number number tag self.now }
+    {
+        self.key.number() == number && self.tag == tag
     }
 }

@@ -1,4 +1,4 @@
-ghost use Rattle.std.specs.Prelude.{◌≤◌};
+ghost use Rattle.std.specs.Prelude.{◌≡◌, ◌≤◌, nat_le};
 
 #[derive(Clone, Copy, Debug, PartialEq, Eq)]
 pub enum Mode {
@@ -19,8 +19,33 @@ pub struct Session {
     pub reading: Option<Reading>,
 }
 
-// The sheet of a store. The first `used` slots of each lent table are its list, and what lies past them means nothing. There
-// is no heap: the tables are lent one by one, as slices of a fixed length, so the counts of their lists stand here.
+// How much of a lent table is used: its first `used` slots are its list, and what lies past them means nothing. There is no
+// heap: the tables are lent one by one, as slices of the opening's length, so the counts of their lists stand here.
+#[derive(Clone, Copy, Debug, PartialEq, Eq)]
+pub struct Room {
+    pub length: usize,
+    pub used: usize,
+    ghost fits: { used ≤ length },
+}
+
+impl Room {
+    // A table of the length, with nothing in its list.
+    pub fn empty(length: usize) -> Room
+        ensures length { result.length ≡ length }
+        ensures used { result.used ≡ 0 }
+    {
+        Room { length, used: 0 }
+    }
+
+    // Whether no slot is left.
+    pub fn is_full(&self) -> bool
+        ensures { result ≡ nat_le self.now.length self.now.used }
+    {
+        self.length <= self.used
+    }
+}
+
+// The sheet of a store.
 #[derive(Drop)]
 pub struct Sheet {
     pub sessions: [Session; 64],
@@ -28,14 +53,7 @@ pub struct Sheet {
     pub last_tag: u32,
     // the finds of the latest read, put or drop
     pub finds: u32,
-    // the lengths of the opening
-    pub hot_length: usize,
-    pub memo_length: usize,
-    pub ledger_length: usize,
-    pub hot_used: usize,
-    pub memo_used: usize,
-    pub ledger_used: usize,
-    ghost hot_fits: { hot_used ≤ hot_length },
-    ghost memo_fits: { memo_used ≤ memo_length },
-    ghost ledger_fits: { ledger_used ≤ ledger_length },
+    pub hot: Room,
+    pub memo: Room,
+    pub ledger: Room,
 }

@@ -17,13 +17,6 @@ use rules::tables::{HotRow, Line, Notice};
 use rules::times::{Moment, Reader};
 use slots::search::{any_of, find_first, listed};
 
-// Whether a notice is that of a cold entry: with its key number and tag.
-fn is_for<K: Key>(notice: &Notice<K>, number: u64, tag: u32) -> bool
-    ensures { result ≡ is_for K.Key.number number tag notice.now }
-{
-    notice.key.number() == number && notice.tag == tag
-}
-
 // The sheet and the tables of a store, lent to be read.
 #[derive(Drop)]
 pub struct Tables<'a, K, R> {
@@ -37,9 +30,9 @@ impl<K: Key, R: Copy> Tables<'_, K, R> {
     // The place of the reader's own unfinished version of the key.
     pub fn own_place(&self, look: Look) -> Option<usize>
         ensures { result ≡ position (hot_own K.Key.number look.reader.session look.number)
-            (take self.now.sheet.now.hot_used self.now.hot.now) }
+            (take self.now.sheet.now.hot.used self.now.hot.now) }
     {
-        listed(self.hot, self.sheet.hot_used)
+        listed(self.hot, self.sheet.hot.used)
             .iter()
             .position(|row| look.is_own(row))
     }
@@ -47,21 +40,21 @@ impl<K: Key, R: Copy> Tables<'_, K, R> {
     // The place of a cold entry's notice.
     pub fn notice_place(&self, number: u64, tag: u32) -> Option<usize>
         ensures { result ≡ position (is_for K.Key.number number tag)
-            (take self.now.sheet.now.memo_used self.now.memo.now) }
+            (take self.now.sheet.now.memo.used self.now.memo.now) }
     {
-        listed(self.memo, self.sheet.memo_used)
+        listed(self.memo, self.sheet.memo.used)
             .iter()
-            .position(|notice| is_for(notice, number, tag))
+            .position(|notice| notice.is_for(number, tag))
     }
 
     // Whether the key is in conflict for the reader.
     pub fn is_conflict(&self, look: Look) -> bool
         ensures { result ≡ conflict K.Key.number (bare_of self.now) look.reader.session look.reader.time look.number }
     {
-        any_of(self.hot, self.sheet.hot_used, |row| look.is_foreign(row))
+        any_of(self.hot, self.sheet.hot.used, |row| look.is_foreign(row))
             || any_of(
                 self.memo,
-                self.sheet.memo_used,
+                self.sheet.memo.used,
                 |notice| look.is_foreign_notice(notice),
             )
     }
@@ -70,9 +63,9 @@ impl<K: Key, R: Copy> Tables<'_, K, R> {
     pub fn is_marked(&self, session: u32) -> bool
         ensures { result ≡ has_marks (bare_of self.now) session }
     {
-        any_of(self.hot, self.sheet.hot_used, |row| {
+        any_of(self.hot, self.sheet.hot.used, |row| {
             row.begin.is_mark_of(session) || row.end.is_some_and(|end| end.is_mark_of(session))
-        }) || any_of(self.memo, self.sheet.memo_used, |notice| {
+        }) || any_of(self.memo, self.sheet.memo.used, |notice| {
             notice.end.is_some_and(|end| end.is_mark_of(session))
         })
     }
@@ -81,10 +74,10 @@ impl<K: Key, R: Copy> Tables<'_, K, R> {
     fn is_above(&self, look: Look) -> bool
         ensures { result ≡ above K.Key.number (bare_of self.now) look.reader.time look.number }
     {
-        any_of(self.hot, self.sheet.hot_used, |row| look.is_above(row))
+        any_of(self.hot, self.sheet.hot.used, |row| look.is_above(row))
             || any_of(
                 self.memo,
-                self.sheet.memo_used,
+                self.sheet.memo.used,
                 |notice| look.is_above_notice(notice),
             )
     }
@@ -98,7 +91,7 @@ impl<K: Key, R: Copy> Tables<'_, K, R> {
             time: reading.time,
         };
         reading.mode == Mode::Checked
-            && any_of(self.ledger, self.sheet.ledger_used, |line| {
+            && any_of(self.ledger, self.sheet.ledger.used, |line| {
                 let number = line.key.number();
                 line.session == session && self.is_above(Look { reader, number })
             })
@@ -111,24 +104,24 @@ impl<K: Key, R: Copy> Tables<'_, K, R> {
         mode == Mode::Checked
             && !any_of(
                 self.ledger,
-                self.sheet.ledger_used,
+                self.sheet.ledger.used,
                 |line| look.is_line(line),
             )
     }
 
     // A cold entry's notice.
     fn notice_for(&self, number: u64, tag: u32) -> Option<Notice<K>>
-        ensures { result ≡ notice_for K.Key.number (take self.now.sheet.now.memo_used self.now.memo.now) number tag }
+        ensures { result ≡ notice_for K.Key.number (take self.now.sheet.now.memo.used self.now.memo.now) number tag }
     {
-        find_first(self.memo, self.sheet.memo_used, |notice| {
-            is_for(notice, number, tag)
+        find_first(self.memo, self.sheet.memo.used, |notice| {
+            notice.is_for(number, tag)
         })
         .map(|hit| hit.it)
     }
 
     // Whether the reader sees the cold entry of its key with a tag.
     fn is_entry_seen(&self, look: Look, tag: u32) -> bool
-        ensures { result ≡ noted_sees (notice_for K.Key.number (take self.now.sheet.now.memo_used self.now.memo.now) look.number tag)
+        ensures { result ≡ noted_sees (notice_for K.Key.number (take self.now.sheet.now.memo.used self.now.memo.now) look.number tag)
             look.reader.session look.reader.time }
     {
         self.notice_for(look.number, tag).map_or(
@@ -140,7 +133,7 @@ impl<K: Key, R: Copy> Tables<'_, K, R> {
     // Finds from tag 0 upward, until an entry is seen or none is left.
     fn walk_cold<C: ColdStore<K, R>>(&self, cold: &C, reader: Reader, key: &K) -> Looked<R>
         ensures { (i : ℕ) → result ≡ looked_at {K = K} i
-            (walk (cold_sees K.Key.number (take self.now.sheet.now.memo_used self.now.memo.now) reader.session reader.time)
+            (walk (cold_sees K.Key.number (take self.now.sheet.now.memo.used self.now.memo.now) reader.session reader.time)
             (own (K.Key.number key.now) 0 (C.ColdStore.entries cold.now)) 0) }
     {
         let look = Look {
@@ -182,7 +175,7 @@ impl<K: Key, R: Copy> Tables<'_, K, R> {
     ) -> Looked<R>
         ensures { result ≡ looked_at
             (position_or_len (hot_sees K.Key.number reader.session reader.time (K.Key.number key.now))
-            (take self.now.sheet.now.hot_used self.now.hot.now))
+            (take self.now.sheet.now.hot.used self.now.hot.now))
             (looked K.Key.number
             (store self.now.sheet.now self.now.hot.now self.now.memo.now [] (C.ColdStore.entries cold.now)
             (C.ColdStore.limit cold.now) (F.Filter.admitted filter.now))
@@ -192,7 +185,7 @@ impl<K: Key, R: Copy> Tables<'_, K, R> {
             reader,
             number: key.number(),
         };
-        if let Some(hit) = find_first(self.hot, self.sheet.hot_used, |row| look.sees(row)) {
+        if let Some(hit) = find_first(self.hot, self.sheet.hot.used, |row| look.sees(row)) {
             return Looked {
                 seen: Some(Seen {
                     row: hit.it.row,

@@ -39,12 +39,12 @@ module _ {K R : Type 0} (lent : Lengths) (σ left : Store K R) (s : ℕ) (f : Mo
 
 -- what a call that is admitted may lean on: the tables' lengths and counts
 pub record Entered {K R : Type 0} (sheet : Sheet) (hot : List (HotRow K R)) (memo : List (Notice K)) (ledger : List (Line K)) (s : ℕ) : Type 0 where
-  pub hot_long : length hot ≡ sheet.hot_length
-  pub memo_long : length memo ≡ sheet.memo_length
-  pub ledger_long : length ledger ≡ sheet.ledger_length
-  pub hot_count : length (take sheet.hot_used hot) ≡ sheet.hot_used
-  pub memo_count : length (take sheet.memo_used memo) ≡ sheet.memo_used
-  pub ledger_count : length (take sheet.ledger_used ledger) ≡ sheet.ledger_used
+  pub hot_long : length hot ≡ sheet.hot.length
+  pub memo_long : length memo ≡ sheet.memo.length
+  pub ledger_long : length ledger ≡ sheet.ledger.length
+  pub hot_count : length (take sheet.hot.used hot) ≡ sheet.hot.used
+  pub memo_count : length (take sheet.memo.used memo) ≡ sheet.memo.used
+  pub ledger_count : length (take sheet.ledger.used ledger) ≡ sheet.ledger.used
   pub within : s < 64
 
 module _ {K R : Type 0} (sheet : Sheet) (hot : List (HotRow K R)) (memo : List (Notice K)) (ledger : List (Line K)) (s : ℕ) where
@@ -57,18 +57,18 @@ module _ {K R : Type 0} (sheet : Sheet) (hot : List (HotRow K R)) (memo : List (
       go false h b i z = absurd (let z : ◌≡◌ {A = ℕ} 0 1 = cc in omega arith)
       go true h true i z = absurd (let z : ◌≡◌ {A = ℕ} 0 1 = cc in omega arith)
       go true h false i z =
-          let p = and_parts (eqb (length hot) sheet.hot_length) _ h in
-          let m = and_parts (eqb (length memo) sheet.memo_length) _ p.1 in
-          let hots = eqb-true (length hot) sheet.hot_length p.0 in
-          let memos = eqb-true (length memo) sheet.memo_length m.0 in
-          let lines = eqb-true (length ledger) sheet.ledger_length m.1 in
+          let p = and_parts (eqb (length hot) sheet.hot.length) _ h in
+          let m = and_parts (eqb (length memo) sheet.memo.length) _ p.1 in
+          let hots = eqb-true (length hot) sheet.hot.length p.0 in
+          let memos = eqb-true (length memo) sheet.memo.length m.0 in
+          let lines = eqb-true (length ledger) sheet.ledger.length m.1 in
           let w = ltb-false 63 s i in
           record {
             hot_long = hots;
             memo_long = memos;
             ledger_long = lines;
-            hot_count = length-take-le sheet.hot_used hot (omega (arith, sheet.hot_fits));
-            memo_count = length-take-le sheet.memo_used memo (omega (arith, sheet.memo_fits));
-            ledger_count = length-take-le sheet.ledger_used ledger (omega (arith, sheet.ledger_fits));
+            hot_count = length-take-le sheet.hot.used hot (omega (arith, sheet.hot.fits));
+            memo_count = length-take-le sheet.memo.used memo (omega (arith, sheet.memo.fits));
+            ledger_count = length-take-le sheet.ledger.used ledger (omega (arith, sheet.ledger.fits));
             within = omega arith;
           }

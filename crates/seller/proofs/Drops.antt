@@ -50,8 +50,8 @@ module _ {K R : Type 0} (number : K → ℕ) (sheet : Sheet) (hot : List (HotRow
   -- the ledger's list after the call
   abbrev lines_after : Option (Line K) → List (Line K)
   lines_after line =
-      option_map_or (λ x. appended (length ledger) sheet.ledger_used x (take sheet.ledger_used ledger)) line
-      (take sheet.ledger_used ledger)
+      option_map_or (λ x. appended (length ledger) sheet.ledger.used x (take sheet.ledger.used ledger)) line
+      (take sheet.ledger.used ledger)
 
   module _ (r : Reading) (q : Ok r ≡ admitted (lent hot memo ledger) (bare sheet hot memo ledger) s) (n : ℕ) (told : n ≡ number key) where
     module _ (c : false ≡ conflict number σ s r.time n) (line : Option (Line K)) (new : line ≡ then_some (new_line number σ r.mode s n) (record { session = s; key = key })) where
@@ -63,12 +63,12 @@ module _ {K R : Type 0} (number : K → ℕ) (sheet : Sheet) (hot : List (HotRow
       apart =
           sym (cond-false _ _ _ (sym (c ∙ ap (conflict number σ s r.time) told))) ∙ is_admitted (lent hot memo ledger) σ (untold σ) s drops q
 
-      pub drop_short : true ≡ (is_some line && leb sheet.ledger_length sheet.ledger_used)
+      pub drop_short : true ≡ (is_some line && leb sheet.ledger.length sheet.ledger.used)
           → refused refusal.LedgerFull (untold σ) ≡ drop_rule number (lent hot memo ledger) σ s key
       drop_short h =
           sym (cond-true _ _ _ (short_is number sheet hot memo ledger es limit admits s key r q line new_is ∙ sym h)) ∙ apart
 
-      module _ (h : false ≡ (is_some line && leb sheet.ledger_length sheet.ledger_used)) where
+      module _ (h : false ≡ (is_some line && leb sheet.ledger.length sheet.ledger.used)) where
         lined : drops_lined r.mode r.time ≡ drop_rule number (lent hot memo ledger) σ s key
         lined = sym (cond-false _ _ _ (short_is number sheet hot memo ledger es limit admits s key r q line new_is ∙ sym h)) ∙ apart
 
@@ -87,7 +87,7 @@ module _ {K R : Type 0} (number : K → ℕ) (sheet : Sheet) (hot : List (HotRow
 
         module _ (o : None ≡ position (hot_own number s n) σ.hot) (l : Looked R)
             (e : l ≡ looked_at (position_or_len (hot_sees number s r.time (number key)) σ.hot) (looked number σ s r.time (number key)))
-            (full : Bool) (f : full ≡ leb sheet.memo_length sheet.memo_used) where
+            (full : Bool) (f : full ≡ leb sheet.memo.length sheet.memo.used) where
           seen : {x : Result (Option Ending) Refusal} → x ≡ ending_of number full σ.memo n l.seen
               → by_ending number (with_finds σ l.finds) s r.time key (λ e. refused e (untold σ))
               (λ τ. served (answer.Was (is_some (row_of (looked number σ s r.time (number key)).seen))) (noted number τ r.mode s key)) x
@@ -96,7 +96,7 @@ module _ {K R : Type 0} (number : K → ℕ) (sheet : Sheet) (hot : List (HotRow
               let own = hot_own number s (number key) in
               ends_looked number σ s r.time key (λ e. refused e (untold σ))
               (λ τ. served (answer.Was (is_some (row_of (looked number σ s r.time (number key)).seen))) (noted number τ r.mode s key))
-              n told l e full (f ∙ ap (leb sheet.memo_length) (sym (entered sheet hot memo ledger s q).memo_count)) z
+              n told l e full (f ∙ ap (leb sheet.memo.length) (sym (entered sheet hot memo ledger s q).memo_count)) z
               ∙ sym (cond-false _ _ _ (placed_none own σ.hot (o ∙ ap (λ k. position (hot_own number s k) σ.hot) told))) ∙ lined
 
           pub drop_unnoted : {x : Refusal} → Err x ≡ ending_of number full σ.memo n l.seen
@@ -106,16 +106,16 @@ module _ {K R : Type 0} (number : K → ℕ) (sheet : Sheet) (hot : List (HotRow
           pub drop_served : {x : Option Ending} → Ok x ≡ ending_of number full σ.memo n l.seen
               → {was : Bool} → was ≡ is_some l.seen
               → {ended : List (HotRow K R)} → ended ≡ ended_hot x s hot
-              → {notices : List (Notice K)} → notices ≡ ended_memo (length memo) sheet.memo_used x s key σ.memo
+              → {notices : List (Notice K)} → notices ≡ ended_memo (length memo) sheet.memo.used x s key σ.memo
               → {lines : List (Line K)} → lines ≡ lines_after line
-              → served (answer.Was was) (with_tables (with_finds σ l.finds) (take sheet.hot_used ended) notices lines)
+              → served (answer.Was was) (with_tables (with_finds σ l.finds) (take sheet.hot.used ended) notices lines)
               ≡ drop_rule number (lent hot memo ledger) σ s key
           drop_served {x} z {was} w {ended} a {notices} b {lines} d =
               let L = looked number σ s r.time (number key) in
               let was_is : was ≡ is_some (row_of L.seen) =
               w ∙ ap (λ (y : Looked R). is_some y.seen) e ∙ any_told (position_or_len (hot_sees number s r.time (number key)) σ.hot) L.seen in
-              ap (λ y. served (answer.Was y) (with_tables (with_finds σ l.finds) (take sheet.hot_used ended) notices lines)) was_is
+              ap (λ y. served (answer.Was y) (with_tables (with_finds σ l.finds) (take sheet.hot.used ended) notices lines)) was_is
               ∙ ap (served (answer.Was (is_some (row_of L.seen))))
-              (same_tables (with_finds σ l.finds) (ap (take sheet.hot_used) a ∙ take_ended x s sheet.hot_used hot)
+              (same_tables (with_finds σ l.finds) (ap (take sheet.hot.used) a ∙ take_ended x s sheet.hot.used hot)
               (ended_notices sheet hot memo ledger s (entered sheet hot memo ledger s q) x key b) (noted_lines d))
               ∙ seen z

@@ -44,12 +44,12 @@ ended_count (Some (Add tag)) room used h = with_count room used h
 -- the notices after an ending, counted as the sheet does
 pub ended_notices : {K R : Type 0} (sheet : Sheet) (hot : List (HotRow K R)) (memo : List (Notice K)) (ledger : List (Line K)) (s : ℕ)
     → Entered sheet hot memo ledger s → (x : Option Ending) (key : K) {notices : List (Notice K)}
-    → notices ≡ ended_memo (length memo) sheet.memo_used x s key (take sheet.memo_used memo)
-    → notices ≡ ended_memo sheet.memo_length (length (take sheet.memo_used memo)) x s key (take sheet.memo_used memo)
+    → notices ≡ ended_memo (length memo) sheet.memo.used x s key (take sheet.memo.used memo)
+    → notices ≡ ended_memo sheet.memo.length (length (take sheet.memo.used memo)) x s key (take sheet.memo.used memo)
 ended_notices sheet hot memo ledger s w x key e =
-    let xs = take sheet.memo_used memo in
-    e ∙ ap (λ n. ended_memo n sheet.memo_used x s key xs) w.memo_long
-    ∙ ap (λ n. ended_memo sheet.memo_length n x s key xs) (sym w.memo_count)
+    let xs = take sheet.memo.used memo in
+    e ∙ ap (λ n. ended_memo n sheet.memo.used x s key xs) w.memo_long
+    ∙ ap (λ n. ended_memo sheet.memo.length n x s key xs) (sym w.memo_count)
 
 module _ {K R : Type 0} (number : K → ℕ) (τ : Store K R) (s t : ℕ) (key : K) where
   -- an ending carried out

@@ -58,31 +58,31 @@ module _ {K R : Type 0} (number : K → ℕ) (sheet : Sheet) (hot : List (HotRow
 
   module _ (r : Reading) (q : Ok r ≡ admitted (lent hot memo ledger) (bare sheet hot memo ledger) s)
       (line : Option (Line K)) (new : line ≡ then_some (new_line number σ r.mode s (number key)) (record { session = s; key = key })) where
-    pub short_is : (new_line number σ r.mode s (number key) && ledger_full σ) ≡ (is_some line && leb sheet.ledger_length sheet.ledger_used)
+    pub short_is : (new_line number σ r.mode s (number key) && ledger_full σ) ≡ (is_some line && leb sheet.ledger.length sheet.ledger.used)
     short_is =
         ap (λ b. b && ledger_full σ) (sym (some_if (new_line number σ r.mode s (number key)) _) ∙ ap is_some (sym new))
-        ∙ ap (λ n. is_some line && leb sheet.ledger_length n) (entered sheet hot memo ledger s q).ledger_count
+        ∙ ap (λ n. is_some line && leb sheet.ledger.length n) (entered sheet hot memo ledger s q).ledger_count
 
-    pub read_short : true ≡ (is_some line && leb sheet.ledger_length sheet.ledger_used)
+    pub read_short : true ≡ (is_some line && leb sheet.ledger.length sheet.ledger.used)
         → refused refusal.LedgerFull (untold σ) ≡ read_rule number (lent hot memo ledger) σ s key
     read_short h = sym (cond-true _ _ _ (short_is ∙ sym h)) ∙ is_admitted (lent hot memo ledger) σ (untold σ) s reads q
 
-    module _ (h : false ≡ (is_some line && leb sheet.ledger_length sheet.ledger_used)) where
+    module _ (h : false ≡ (is_some line && leb sheet.ledger.length sheet.ledger.used)) where
       -- the ledger after the line
       pub lines_are : {lines : List (Line K)}
-          → lines ≡ option_map_or (λ x. appended (length ledger) sheet.ledger_used x (take sheet.ledger_used ledger)) line
-          (take sheet.ledger_used ledger)
+          → lines ≡ option_map_or (λ x. appended (length ledger) sheet.ledger.used x (take sheet.ledger.used ledger)) line
+          (take sheet.ledger.used ledger)
           → lines ≡ cond (new_line number σ r.mode s (number key)) (σ.ledger ++ one (record { session = s; key = key })) σ.ledger
       lines_are e =
           let long = (entered sheet hot memo ledger s q).ledger_long in
-          e ∙ lined line (length ledger) sheet.ledger_used σ.ledger (h ∙ ap (λ n. is_some line && leb n sheet.ledger_used) (sym long))
+          e ∙ lined line (length ledger) sheet.ledger.used σ.ledger (h ∙ ap (λ n. is_some line && leb n sheet.ledger.used) (sym long))
           ∙ ap (λ l. option_map_or (λ x. σ.ledger ++ one x) l σ.ledger) new
           ∙ map_if (new_line number σ r.mode s (number key)) _ (λ x. σ.ledger ++ one x) σ.ledger
 
       pub read_served : (i : ℕ) (l : Looked R) → l ≡ looked_at i (looked number σ s r.time (number key)) → {o : Option R} → o ≡ option_map (λ v. v.row) l.seen
           → {lines : List (Line K)}
-          → lines ≡ option_map_or (λ x. appended (length ledger) sheet.ledger_used x (take sheet.ledger_used ledger)) line
-          (take sheet.ledger_used ledger)
+          → lines ≡ option_map_or (λ x. appended (length ledger) sheet.ledger.used x (take sheet.ledger.used ledger)) line
+          (take sheet.ledger.used ledger)
           → served (answer.Row o) (with_ledger (with_finds σ l.finds) lines) ≡ read_rule number (lent hot memo ledger) σ s key
       read_served i l e {o} f {lines} g =
           let row : o ≡ row_of (looked number σ s r.time (number key)).seen =

@@ -1,6 +1,6 @@
 -- How put leaves, each way against the rule.
-use Rattle.std.proofs.Common.{◌≡◌, ℕ, ◌<◌, ◌≤◌, Bool, false, cond, leb, List, ◌++◌, length, take, Some, None, Ok, Err, Result, sym, refl, ap, ◌∙◌, arith, position, Option}
-use Rattle.std.proofs.lemmas.Bool.{cond-true, cond-false, le-leb, lt-leb}
+use Rattle.std.proofs.Common.{◌≡◌, ℕ, Bool, true, false, cond, leb, List, ◌++◌, length, take, Some, None, Ok, Err, Result, sym, refl, ap, ◌∙◌, arith, position, Option}
+use Rattle.std.proofs.lemmas.Bool.{cond-true, cond-false, leb-false}
 use Rattle.slots.specs.Lists.{any, one, at_first, changed_at, appended}
 use Rattle.slots.proofs.Slots.{take_changed, appended_more}
 use Rattle.cold.specs.Cold.{Entry}
@@ -50,12 +50,12 @@ module _ {K R : Type 0} (number : K → ℕ) (sheet : Sheet) (hot : List (HotRow
           sym (cond-false _ _ _ (sym (c ∙ ap (conflict number σ s r.time) told))) ∙ is_admitted (lent hot memo ledger) σ (untold σ) s puts q
 
       pub put_own : (i : ℕ) → Some i ≡ position (hot_own number s n) σ.hot → {rows : List (HotRow K R)} → rows ≡ changed_at i (with_row row) hot
-          → served answer.Done (with_hot (untold σ) (take sheet.hot_used rows)) ≡ put_rule number (lent hot memo ledger) σ s key row
+          → served answer.Done (with_hot (untold σ) (take sheet.hot.used rows)) ≡ put_rule number (lent hot memo ledger) σ s key row
       put_own i e {rows} f =
           let own = hot_own number s (number key) in
           let at = placed_some own σ.hot i (e ∙ ap (λ k. position (hot_own number s k) σ.hot) told) in
-          let list : take sheet.hot_used rows ≡ at_first own (λ x. one (with_row row x)) σ.hot =
-          ap (take sheet.hot_used) f ∙ take_changed (with_row row) sheet.hot_used i hot
+          let list : take sheet.hot.used rows ≡ at_first own (λ x. one (with_row row x)) σ.hot =
+          ap (take sheet.hot.used) f ∙ take_changed (with_row row) sheet.hot.used i hot
           ∙ ap (λ j. changed_at j (with_row row) σ.hot) at.1 ∙ place_changed own (with_row row) σ.hot in
           ap (λ z. served answer.Done (with_hot (untold σ) z)) list ∙ sym (cond-true _ _ _ at.0) ∙ apart
 
@@ -65,19 +65,19 @@ module _ {K R : Type 0} (number : K → ℕ) (sheet : Sheet) (hot : List (HotRow
             let own = hot_own number s (number key) in
             sym (cond-false _ _ _ (placed_none own σ.hot (o ∙ ap (λ k. position (hot_own number s k) σ.hot) told))) ∙ apart
 
-        pub put_full : sheet.hot_length ≤ sheet.hot_used
+        pub put_full : true ≡ leb sheet.hot.length sheet.hot.used
             → refused refusal.HotFull (untold σ) ≡ put_rule number (lent hot memo ledger) σ s key row
         put_full h =
             let w = entered sheet hot memo ledger s q in
-            sym (cond-true _ _ _ (le-leb sheet.hot_length (length σ.hot) (omega (arith, w.hot_count)))) ∙ unowned
+            sym (cond-true _ _ _ (ap (leb sheet.hot.length) w.hot_count ∙ sym h)) ∙ unowned
 
-        module _ (h : sheet.hot_used < sheet.hot_length) (l : Looked R)
+        module _ (h : false ≡ leb sheet.hot.length sheet.hot.used) (l : Looked R)
             (e : l ≡ looked_at (position_or_len (hot_sees number s r.time (number key)) σ.hot) (looked number σ s r.time (number key)))
-            (full : Bool) (f : full ≡ leb sheet.memo_length sheet.memo_used) where
+            (full : Bool) (f : full ≡ leb sheet.memo.length sheet.memo.used) where
           free : put_seen number σ s r.time key row (looked number σ s r.time (number key)) ≡ put_rule number (lent hot memo ledger) σ s key row
           free =
               let w = entered sheet hot memo ledger s q in
-              sym (cond-false _ _ _ (lt-leb sheet.hot_length (length σ.hot) (omega (arith, w.hot_count)))) ∙ unowned
+              sym (cond-false _ _ _ (ap (leb sheet.hot.length) w.hot_count ∙ sym h)) ∙ unowned
 
           seen : {x : Result (Option Ending) Refusal} → x ≡ ending_of number full σ.memo n l.seen
               → by_ending number (with_finds σ l.finds) s r.time key (λ e. refused e (untold σ))
@@ -85,7 +85,7 @@ module _ {K R : Type 0} (number : K → ℕ) (sheet : Sheet) (hot : List (HotRow
               ≡ put_rule number (lent hot memo ledger) σ s key row
           seen {x} z =
               ends_looked number σ s r.time key (λ e. refused e (untold σ)) (λ τ. served answer.Done (push_hot τ (new_row s key row)))
-              n told l e full (f ∙ ap (leb sheet.memo_length) (sym (entered sheet hot memo ledger s q).memo_count)) z
+              n told l e full (f ∙ ap (leb sheet.memo.length) (sym (entered sheet hot memo ledger s q).memo_count)) z
               ∙ free
 
           pub put_unnoted : {x : Refusal} → Err x ≡ ending_of number full σ.memo n l.seen
@@ -94,13 +94,14 @@ module _ {K R : Type 0} (number : K → ℕ) (sheet : Sheet) (hot : List (HotRow
 
           pub put_served : {x : Option Ending} → Ok x ≡ ending_of number full σ.memo n l.seen
               → (ended : List (HotRow K R)) → ended ≡ ended_hot x s hot → length ended ≡ length hot
-              → {rows : List (HotRow K R)} → rows ≡ appended (length ended) sheet.hot_used (new_row s key row) (take sheet.hot_used ended)
-              → {notices : List (Notice K)} → notices ≡ ended_memo (length memo) sheet.memo_used x s key σ.memo
+              → {rows : List (HotRow K R)} → rows ≡ appended (length ended) sheet.hot.used (new_row s key row) (take sheet.hot.used ended)
+              → {notices : List (Notice K)} → notices ≡ ended_memo (length memo) sheet.memo.used x s key σ.memo
               → served answer.Done (with_tables (with_finds σ l.finds) rows notices σ.ledger) ≡ put_rule number (lent hot memo ledger) σ s key row
           put_served {x} z ended g m {rows} a {notices} b =
               let w = entered sheet hot memo ledger s q in
+              let below = leb-false sheet.hot.length sheet.hot.used (sym h) in
               let rows_are : rows ≡ ended_hot x s σ.hot ++ one (new_row s key row) =
-              a ∙ appended_more (length ended) sheet.hot_used _ _ (omega (arith, w.hot_long))
-              ∙ ap (λ y. take sheet.hot_used y ++ one (new_row s key row)) g
-              ∙ ap (λ y. y ++ one (new_row s key row)) (take_ended x s sheet.hot_used hot) in
+              a ∙ appended_more (length ended) sheet.hot.used _ _ (omega (arith, w.hot_long))
+              ∙ ap (λ y. take sheet.hot.used y ++ one (new_row s key row)) g
+              ∙ ap (λ y. y ++ one (new_row s key row)) (take_ended x s sheet.hot.used hot) in
               ap (served answer.Done) (same_tables (with_finds σ l.finds) rows_are (ended_notices sheet hot memo ledger s w x key b) refl) ∙ seen z

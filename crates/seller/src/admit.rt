@@ -20,10 +20,5 @@ pub(crate) fn admit<K: Key, R: Copy>(
     if !sheet.is_lent(tables.hot, tables.memo, tables.ledger) {
         return Err(Refusal::OutOfRange(Side::Seller));
     }
-    if session > 63 {
-        return Err(Refusal::NoSession);
-    }
-    sheet.sessions[session as usize]
-        .reading
-        .ok_or(Refusal::NotOpen)
+    sheet.reading(session)?.ok_or(Refusal::NotOpen)
 }

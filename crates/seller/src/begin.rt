@@ -35,15 +35,10 @@ pub fn begin<K: Key, R: Copy>(
     if !sheet.is_lent(hot, memo, ledger) {
         return Err(Refusal::OutOfRange(Side::Seller));
     }
-    if session > 63 {
-        return Err(Refusal::NoSession);
-    }
-    let i = session as usize;
-    let reading = sheet.sessions[i].reading;
-    if reading.is_some() {
+    if sheet.reading(session)?.is_some() {
         return Err(Refusal::AlreadyOpen);
     }
     let time = sheet.clock;
-    open_entry(&mut sheet.sessions[i], mode, time);
+    open_entry(&mut sheet.sessions[session as usize], mode, time);
     Ok(())
 }

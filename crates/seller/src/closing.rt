@@ -21,7 +21,7 @@ pub(crate) fn close<K: Key, R: Copy>(sheet: &mut Sheet, ledger: &mut [Line<K>], 
         → store sheet.new hot memo ledger.new es limit admits
         ≡ close (store sheet.old hot memo ledger.old es limit admits) session }
 {
-    let lines = retain(ledger, sheet.ledger_used, |line| line.session != session);
-    sheet.ledger_used = lines;
+    let lines = retain(ledger, sheet.ledger.used, |line| line.session != session);
+    sheet.ledger.used = lines;
     close_entry(&mut sheet.sessions[session as usize]);
 }

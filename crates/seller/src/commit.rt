@@ -9,14 +9,12 @@ use crate::closing::close;
 use crate::undo::undo;
 use keys::key::Key;
 use rules::answers::Refusal;
+use rules::limits::LAST_STAMP;
 use rules::sheet::Sheet;
 use rules::tables::{HotRow, Line, Notice};
 use scan::edits::{stamp_notice, stamp_row};
 use scan::tables::Tables;
 use slots::change::edit_all;
-
-// The last stamp that the clock can show.
-pub(crate) const CLOCK_END: u32 = 4000000000;
 
 // Makes the session's changes last, and answers their stamp: 0 where there are none. A stale read undoes the session.
 // 0 and no Option: the rule answers a number, and callers print it.
@@ -50,14 +48,14 @@ pub fn commit<K: Key, R: Copy>(
         undo(sheet, hot, memo, ledger, session);
         return Err(Refusal::StaleRead);
     }
-    if sheet.clock >= CLOCK_END {
+    if sheet.clock >= LAST_STAMP {
         return Err(Refusal::ClockAtEnd);
     }
     let stamp = sheet.clock + 1;
-    edit_all(hot, sheet.hot_used, |row| stamp_row(row, session, stamp));
+    edit_all(hot, sheet.hot.used, |row| stamp_row(row, session, stamp));
     edit_all(
         memo,
-        sheet.memo_used,
+        sheet.memo.used,
         |notice| stamp_notice(notice, session, stamp),
     );
     sheet.clock = stamp;

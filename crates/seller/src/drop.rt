@@ -63,18 +63,18 @@ pub fn drop<K: Key, R: Copy, C: ColdStore<K, R>, F: Filter>(
         return Err(Refusal::LedgerFull);
     }
     if let Some(at) = tables.own_place(look) {
-        let rows = take_out(hot, sheet.hot_used, at);
-        let lines = note_line(ledger, sheet.ledger_used, line);
-        sheet.hot_used = rows;
-        sheet.ledger_used = lines;
+        let rows = take_out(hot, sheet.hot.used, at);
+        let lines = note_line(ledger, sheet.ledger.used, line);
+        sheet.hot.used = rows;
+        sheet.ledger.used = lines;
         return Ok(true);
     }
     let looked = tables.lookup(cold, filter, reader, &key);
     let ending = ending_of(&tables, number, looked.seen)?;
-    let notices = end_version(hot, memo, sheet.memo_used, ending, session, key);
-    let lines = note_line(ledger, sheet.ledger_used, line);
+    let notices = end_version(hot, memo, sheet.memo.used, ending, session, key);
+    let lines = note_line(ledger, sheet.ledger.used, line);
     sheet.finds = looked.finds;
-    sheet.memo_used = notices;
-    sheet.ledger_used = lines;
+    sheet.memo.used = notices;
+    sheet.ledger.used = lines;
     Ok(looked.seen.is_some())
 }

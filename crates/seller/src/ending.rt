@@ -28,8 +28,8 @@ pub(crate) fn ending_of<K: Key, R: Copy>(
     number: u64,
     seen: Option<Seen<R>>,
 ) -> Result<Option<Ending>, Refusal>
-    ensures { result ≡ ending_of K.Key.number (nat_le tables.now.sheet.now.memo_length tables.now.sheet.now.memo_used)
-        (take tables.now.sheet.now.memo_used tables.now.memo.now) number seen }
+    ensures { result ≡ ending_of K.Key.number (nat_le tables.now.sheet.now.memo.length tables.now.sheet.now.memo.used)
+        (take tables.now.sheet.now.memo.used tables.now.memo.now) number seen }
 {
     let Some(version) = seen else {
         return Ok(None);
@@ -38,7 +38,7 @@ pub(crate) fn ending_of<K: Key, R: Copy>(
         Place::Hot(at) => Ending::Row(at),
         Place::Cold(tag) => match tables.notice_place(number, tag) {
             Some(at) => Ending::Turn(at),
-            None if tables.sheet.memo_length <= tables.sheet.memo_used => {
+            None if tables.sheet.memo.is_full() => {
                 return Err(Refusal::MemoFull(Side::Seller));
             }
             None => Ending::Add(tag),

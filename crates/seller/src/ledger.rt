@@ -9,9 +9,9 @@ use slots::count::append;
 
 // Whether there is a line to be entered and no slot is left for it.
 pub(crate) fn is_ledger_short<K: Key>(sheet: &Sheet, line: Option<Line<K>>) -> bool
-    ensures { result ≡ is_some line && nat_le sheet.now.ledger_length sheet.now.ledger_used }
+    ensures { result ≡ is_some line && nat_le sheet.now.ledger.length sheet.now.ledger.used }
 {
-    line.is_some() && sheet.ledger_length <= sheet.ledger_used
+    line.is_some() && sheet.ledger.is_full()
 }
 
 // Enters a line where there is one to be entered, and answers how many there are then.

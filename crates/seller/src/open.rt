@@ -3,13 +3,10 @@ ghost use Rattle.rules.specs.Opening.{in_range};
 ghost use Rattle.seller.specs.Opens.{Opens};
 ghost use Rattle.law.specs.Law.{Law};
 
-use crate::commit::CLOCK_END;
 use keys::key::Key;
 use rules::answers::{Refusal, Side};
-use rules::sheet::{Session, Sheet};
-
-// The last tag that a move can get.
-const TAG_END: u32 = 4000000000;
+use rules::limits::{LAST_STAMP, LAST_TAG};
+use rules::sheet::{Room, Session, Sheet};
 
 // Whether the numbers of an opening are within their ranges.
 fn is_in_range(
@@ -24,8 +21,8 @@ fn is_in_range(
     (1..=65536).contains(&hot_length)
         && (1..=8192).contains(&memo_length)
         && (1..=4096).contains(&ledger_length)
-        && (1..=CLOCK_END).contains(&clock)
-        && last_tag <= TAG_END
+        && (1..=LAST_STAMP).contains(&clock)
+        && last_tag <= LAST_TAG
 }
 
 // A new sheet: over any tables it is an empty store with all sessions closed. Numbers out of range are refused.
@@ -47,11 +44,8 @@ pub fn open<K: Key, R: Copy>(
         clock,
         last_tag,
         finds: 0,
-        hot_length,
-        memo_length,
-        ledger_length,
-        hot_used: 0,
-        memo_used: 0,
-        ledger_used: 0,
+        hot: Room::empty(hot_length),
+        memo: Room::empty(memo_length),
+        ledger: Room::empty(ledger_length),
     })
 }

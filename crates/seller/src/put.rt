@@ -60,15 +60,15 @@ pub fn put<K: Key, R: Copy, C: ColdStore<K, R>, F: Filter>(
         edit_at(hot, at, |version| version.row = row);
         return Ok(());
     }
-    if tables.sheet.hot_length <= tables.sheet.hot_used {
+    if tables.sheet.hot.is_full() {
         return Err(Refusal::HotFull);
     }
     let looked = tables.lookup(cold, filter, reader, &key);
     let ending = ending_of(&tables, number, looked.seen)?;
-    let notices = end_version(hot, memo, sheet.memo_used, ending, session, key);
+    let notices = end_version(hot, memo, sheet.memo.used, ending, session, key);
     let rows = append(
         hot,
-        sheet.hot_used,
+        sheet.hot.used,
         HotRow {
             key,
             row,
@@ -78,7 +78,7 @@ pub fn put<K: Key, R: Copy, C: ColdStore<K, R>, F: Filter>(
         },
     );
     sheet.finds = looked.finds;
-    sheet.hot_used = rows;
-    sheet.memo_used = notices;
+    sheet.hot.used = rows;
+    sheet.memo.used = notices;
     Ok(())
 }

@@ -56,8 +56,8 @@ pub fn read<K: Key, R: Copy, C: ColdStore<K, R>, F: Filter>(
         return Err(Refusal::LedgerFull);
     }
     let looked = tables.lookup(cold, filter, reader, &key);
-    let lines = note_line(ledger, sheet.ledger_used, line);
+    let lines = note_line(ledger, sheet.ledger.used, line);
     sheet.finds = looked.finds;
-    sheet.ledger_used = lines;
+    sheet.ledger.used = lines;
     Ok(looked.row())
 }

@@ -24,15 +24,15 @@ pub(crate) fn undo<K: Key, R: Copy>(
         → store sheet.new hot.new memo.new ledger.new es limit admits
         ≡ close (undone (store sheet.old hot.old memo.old ledger.old es limit admits) session) session }
 {
-    let rows = retain(hot, sheet.hot_used, |row| row_stays(row, session));
+    let rows = retain(hot, sheet.hot.used, |row| row_stays(row, session));
     edit_all(hot, rows, |row| reopen_row(row, session));
     let notices = retain(
         memo,
-        sheet.memo_used,
+        sheet.memo.used,
         |notice| notice_stays(notice, session),
     );
     edit_all(memo, notices, |notice| reopen_notice(notice, session));
-    sheet.hot_used = rows;
-    sheet.memo_used = notices;
+    sheet.hot.used = rows;
+    sheet.memo.used = notices;
     close::<K, R>(sheet, ledger, session);
 }

@@ -18,11 +18,11 @@ returns-in_default g c =
 
 -- the row that is found
 row_hit : (g : given.Over) (c : After-put_below g)
-    → hit (row_chosen c.args.moving.tag) (take c.args.sheet.now.hot_used c.args.hot.now) ≡ Some c.in-Some.hit
+    → hit (row_chosen c.args.moving.tag) (take c.args.sheet.now.hot.used c.args.hot.now) ≡ Some c.in-Some.hit
 row_hit g c = sym (c.in-Some.ensures (row_chosen c.args.moving.tag) (λ x r k. search rules))
 
 row_is : (g : given.Over) (c : After-put_below g)
-    → first (row_chosen c.args.moving.tag) (take c.args.sheet.now.hot_used c.args.hot.now) ≡ Some c.in-Some.hit.it
+    → first (row_chosen c.args.moving.tag) (take c.args.sheet.now.hot.used c.args.hot.now) ≡ Some c.in-Some.hit.it
 row_is g c = hit_first _ _ c.in-Some.hit (row_hit g c)
 
 pub returns-in-Err : goal.returns-in-Err
@@ -49,7 +49,7 @@ returns g c =
     let f = row_is g (goal.at.returns g c).After-put_below in
     let put = sym (c.in_default-put_below.ensures.answer) in
     let edit = c.edit_at.ensures (with_mark (Copied tag)) (λ x y k. search rules) in
-    let rows = found_changed _ (with_mark (Copied tag)) c.args.sheet.now.hot_used c.args.hot.now c.in-Some.hit _ q edit in
+    let rows = found_changed _ (with_mark (Copied tag)) c.args.sheet.now.hot.used c.args.hot.now c.in-Some.hit _ q edit in
     record {
       answer = rw (← e, f, put);
       after = rw (← e, f, put, rows, c.put_below.ensures.after, c.put_below.ensures.limit);

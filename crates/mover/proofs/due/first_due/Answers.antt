@@ -8,7 +8,7 @@ use Rattle.mover.proofs.due.first_due.Goals as goal
 
 pub returns-then-is_notice_due : goal.returns-then-is_notice_due
 returns-then-is_notice_due g c =
-    let rows = take c.args.sheet.now.hot_used c.args.hot.now in
+    let rows = take c.args.sheet.now.hot.used c.args.hot.now in
     let p = due_by c.args.sheet.now rows in
     let n = c.index-notices-at.result in
     seek_here p c.listed-notices.result.now c.loop-at.at c.loop-at.invariant n c.loop-at-test.true c.index-notices-at.is
@@ -18,7 +18,7 @@ returns-then-is_notice_due g c =
 
 pub loop-at-preserved : goal.loop-at-preserved
 loop-at-preserved g c =
-    let rows = take c.args.sheet.now.hot_used c.args.hot.now in
+    let rows = take c.args.sheet.now.hot.used c.args.hot.now in
     let n = c.index-notices-at.result in
     seek_more (due_by c.args.sheet.now rows) c.listed-notices.result.now c.loop-at.at c.loop-at.invariant n c.loop-at-test.true
     c.index-notices-at.is
@@ -27,5 +27,5 @@ loop-at-preserved g c =
 
 pub returns : goal.returns
 returns g c =
-    let p = due_by c.args.sheet.now (take c.args.sheet.now.hot_used c.args.hot.now) in
+    let p = due_by c.args.sheet.now (take c.args.sheet.now.hot.used c.args.hot.now) in
     seek_all p c.listed-notices.result.now c.loop-at.at c.loop-at.invariant (omega arith) ∙ ap (hit p) c.listed-notices.ensures

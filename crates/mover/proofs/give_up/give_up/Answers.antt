@@ -11,7 +11,7 @@ returns-then-not-edit_first g c =
     let e = c.if-not-is_lent.ensures in
     let found = c.if-not-edit_first.ensures.answer (row_bears tag) (λ x r k. search rules) in
     let rows = c.edit_first.ensures.list (row_bears tag) (with_mark Unmoved) (λ x r k. search rules) (λ x y k. search rules)
-    ∙ none_edited (row_bears tag) (λ x. one (with_mark Unmoved x)) (take c.args.sheet.now.hot_used c.args.hot.now) found in
+    ∙ none_edited (row_bears tag) (λ x. one (with_mark Unmoved x)) (take c.args.sheet.now.hot.used c.args.hot.now) found in
     record {
       answer = λ es l a. rw (← e, ← found);
       after = λ es l a. rw (← e, ← found, rows);

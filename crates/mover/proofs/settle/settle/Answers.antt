@@ -16,9 +16,9 @@ returns-in_default g c =
 pub invariant_of-sheet : goal.invariant_of-sheet
 invariant_of-sheet g c =
     let sheet = c.args.sheet.now in
-    let k = count_without_within (length c.args.hot.now) sheet.hot_used c.in-Some.hit.at in
-    let h = sheet.hot_fits in
-    record { hot_fits = omega (arith, c.take_out-sheet.ensures.count); memo_fits = sheet.memo_fits; ledger_fits = sheet.ledger_fits }
+    let k = count_without_within (length c.args.hot.now) sheet.hot.used c.in-Some.hit.at in
+    let h = sheet.hot.fits in
+    record { fits = omega (arith, c.take_out-sheet.ensures.count) }
 
 pub returns : goal.returns
 returns g c =
@@ -28,7 +28,7 @@ returns g c =
     let e = c.if-not-is_lent.ensures in
     let q = sym (c.in-Some.ensures (row_copied tag) (λ x r k. search rules)) in
     let f = hit_first _ _ h q in
-    let rows = c.take_out-sheet.ensures.list ∙ hit_removed (row_copied tag) (take sheet.hot_used c.args.hot.now) h q in
+    let rows = c.take_out-sheet.ensures.list ∙ hit_removed (row_copied tag) (take sheet.hot.used c.args.hot.now) h q in
     let notices = c.edit_first.ensures.list (is_for g.K.Key.number (g.K.Key.number h.it.key) tag) (settle_notice (begin_stamp h.it.begin))
     (λ x r k. search rules) (λ x y k. search rules) in
     record {

@@ -15,31 +15,31 @@ returns-in_default g c =
 pub invariant_of-sheet : goal.invariant_of-sheet
 invariant_of-sheet g c =
     let sheet = c.args.sheet.now in
-    let k = count_without_within (length c.args.memo.now) sheet.memo_used c.in-Some.hit.at in
-    let h = sheet.memo_fits in
-    record { hot_fits = sheet.hot_fits; memo_fits = omega (arith, c.take_out-sheet.ensures.count); ledger_fits = sheet.ledger_fits }
+    let k = count_without_within (length c.args.memo.now) sheet.memo.used c.in-Some.hit.at in
+    let h = sheet.memo.fits in
+    record { fits = omega (arith, c.take_out-sheet.ensures.count) }
 
 pub returns-in-None : goal.returns-in-None
 returns-in-None g c =
     let sheet = c.args.sheet.now in
-    let due = due_by sheet (take sheet.hot_used c.args.hot.now) in
+    let due = due_by sheet (take sheet.hot.used c.args.hot.now) in
     let e = c.if-not-is_lent.ensures in
     let q = sym c.in-Some.ensures in
     let f = hit_first _ _ c.in-Some.hit q in
     let b = c.in-None.ensures in
-    let notices = c.take_out-sheet.ensures.list ∙ hit_removed due (take sheet.memo_used c.args.memo.now) c.in-Some.hit q in
+    let notices = c.take_out-sheet.ensures.list ∙ hit_removed due (take sheet.memo.used c.args.memo.now) c.in-Some.hit q in
     record { answer = λ a. rw (← e, f, ← b); after = λ a. rw (← e, f, ← b, notices) }
 
 pub returns-in-Some-after : goal.returns-in-Some-after
 returns-in-Some-after g c =
     let sheet = c.args.sheet.now in
-    let due = due_by sheet (take sheet.hot_used c.args.hot.now) in
+    let due = due_by sheet (take sheet.hot.used c.args.hot.now) in
     let kind = c.in-Some-after.kind in
     let e = c.if-not-is_lent.ensures in
     let q = sym c.in-Some.ensures in
     let f = hit_first _ _ c.in-Some.hit q in
     let b = c.in-Some-after.ensures in
-    let notices = found_changed due (with_kind kind) sheet.memo_used c.args.memo.now c.in-Some.hit _ q c.empty_out.ensures.notice in
+    let notices = found_changed due (with_kind kind) sheet.memo.used c.args.memo.now c.in-Some.hit _ q c.empty_out.ensures.notice in
     record {
       answer = λ a. rw (← e, f, ← b);
       after = λ a. rw (← e, f, ← b, notices, c.empty_out.ensures.entry, c.empty_out.ensures.limit);

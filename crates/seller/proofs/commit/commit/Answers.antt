@@ -29,11 +29,11 @@ returns-then-is_stale g c =
       after = λ es limit admits. c.undo.ensures es limit admits ∙ ap after_of (given es limit admits);
     }
 
-pub returns-then-sheet-ge-CLOCK_END : goal.returns-then-sheet-ge-CLOCK_END
-returns-then-sheet-ge-CLOCK_END g c =
+pub returns-then-sheet-ge-LAST_STAMP : goal.returns-then-sheet-ge-LAST_STAMP
+returns-then-sheet-ge-LAST_STAMP g c =
     let given = λ (es : List (Entry g.row.R.Denot)) (limit : ℕ) (admits : ℕ → Bool).
     commit_late g.K.Key.number (lent c.args.hot.now c.args.memo.now c.args.ledger.now)
-    (store c.args.sheet.now c.args.hot.now c.args.memo.now c.args.ledger.now es limit admits) c.args.session c.in_ok-reading.reading c.in_ok-reading.ensures c.if-not-is_marked.ensures c.if-is_stale.ensures c.if-sheet-ge-CLOCK_END.true in
+    (store c.args.sheet.now c.args.hot.now c.args.memo.now c.args.ledger.now es limit admits) c.args.session c.in_ok-reading.reading c.in_ok-reading.ensures c.if-not-is_marked.ensures c.if-is_stale.ensures c.if-sheet-ge-LAST_STAMP.true in
     record {
       answer = λ es limit admits. ap answer_of (given es limit admits);
       after = λ es limit admits. ap after_of (given es limit admits);
@@ -48,7 +48,7 @@ pub returns : goal.returns
 returns g c =
     let given = λ (es : List (Entry g.row.R.Denot)) (limit : ℕ) (admits : ℕ → Bool).
     commit_stamped g.K.Key.number (lent c.args.hot.now c.args.memo.now c.args.ledger.now)
-    (store c.args.sheet.now c.args.hot.now c.args.memo.now c.args.ledger.now es limit admits) c.args.session c.in_ok-reading.reading c.in_ok-reading.ensures c.if-not-is_marked.ensures c.if-is_stale.ensures c.if-sheet-ge-CLOCK_END.false in
+    (store c.args.sheet.now c.args.hot.now c.args.memo.now c.args.ledger.now es limit admits) c.args.session c.in_ok-reading.reading c.in_ok-reading.ensures c.if-not-is_marked.ensures c.if-is_stale.ensures c.if-sheet-ge-LAST_STAMP.false in
     record {
       answer = λ es limit admits. ap answer_of (given es limit admits);
       after = λ es limit admits.

@@ -3,9 +3,8 @@ use Rattle.std.specs.Bool.{then_some}
 use Rattle.rules.specs.Told.{told_was}
 use Rattle.seller.proofs.Admission.{entered}
 use Rattle.seller.proofs.Drops.{drop_short, dropped_own, drop_unnoted, drop_served}
-use Rattle.seller.proofs.Endings.{ended_count}
 use Rattle.seller.proofs.Looks.{lined_count}
-use Rattle.seller.proofs.Parts.{answer_of, after_of, left_by, without_count}
+use Rattle.seller.proofs.Parts.{answer_of, after_of, left_by}
 use Rattle.seller.proofs.drop.drop.Goals as goal
 
 pub returns-then-is_ledger_short-clause-after : goal.returns-then-is_ledger_short-clause-after
@@ -20,14 +19,9 @@ pub invariant_of-sheet-in-Some : goal.invariant_of-sheet-in-Some
 invariant_of-sheet-in-Some g c =
     let sheet = c.args.sheet.now in
     let w = entered c.args.sheet.now c.args.hot.now c.args.memo.now c.args.ledger.now c.args.session c.in_ok-reading.ensures in
-    let rows = without_count (length c.args.hot.now) sheet.hot_used c.in-Some.at in
-    let lines = lined_count c.then_some-line.result (length c.args.ledger.now) sheet.ledger_used
-    (omega (arith, w.ledger_long, sheet.ledger_fits)) in
-    record {
-      hot_fits = omega (arith, sheet.hot_fits, c.take_out-rows.ensures.count);
-      memo_fits = sheet.memo_fits;
-      ledger_fits = omega (arith, w.ledger_long, c.note_line-lines.ensures.count);
-    }
+    let lines = lined_count c.then_some-line.result (length c.args.ledger.now) sheet.ledger.used
+    (omega (arith, w.ledger_long, sheet.ledger.fits)) in
+    record { fits = omega (arith, w.ledger_long, c.note_line-lines.ensures.count) }
 
 pub returns-in-Some : goal.returns-in-Some
 returns-in-Some g c =
@@ -44,24 +38,10 @@ returns-in_err-ending g c =
     (g.C.ColdStore.entries c.args.cold.now) (g.C.ColdStore.limit c.args.cold.now) (g.F.Filter.admitted c.args.filter.now)
     c.args.session c.args.key c.in_ok-reading.reading c.in_ok-reading.ensures c.number-number.result c.number-number.ensures
     c.if-is_conflict.ensures c.then_some-line.result (c.then_some-line.ensures ∙ ap (λ b. then_some b (record { session = c.args.session; key = c.args.key })) c.is_line_new.ensures) c.if-is_ledger_short.ensures (sym c.in_default.is ∙ c.own_place.ensures) c.lookup-looked.result c.lookup-looked.ensures
-    (leb c.args.sheet.now.memo_length c.args.sheet.now.memo_used) refl c.in_err-ending.ensures in
+    (leb c.args.sheet.now.memo.length c.args.sheet.now.memo.used) refl c.in_err-ending.ensures in
     record {
       answer = ap told_was (left_by c.from_residual-in_err-ending.result _ c.from_residual-in_err-ending.ensures.1) ∙ ap answer_of given;
       after = ap after_of given;
-    }
-
-pub invariant_of-sheet-2 : goal.invariant_of-sheet-2
-invariant_of-sheet-2 g c =
-    let sheet = c.args.sheet.now in
-    let w = entered c.args.sheet.now c.args.hot.now c.args.memo.now c.args.ledger.now c.args.session c.in_ok-reading.ensures in
-    let notices = ended_count c.in_ok-ending.ending (length c.args.memo.now) sheet.memo_used
-    (omega (arith, w.memo_long, sheet.memo_fits)) in
-    let lines = lined_count c.then_some-line.result (length c.args.ledger.now) sheet.ledger_used
-    (omega (arith, w.ledger_long, sheet.ledger_fits)) in
-    record {
-      hot_fits = sheet.hot_fits;
-      memo_fits = omega (arith, w.memo_long, c.end_version-notices.ensures.count);
-      ledger_fits = omega (arith, w.ledger_long, c.note_line-lines-2.ensures.count);
     }
 
 pub returns : goal.returns
@@ -70,6 +50,6 @@ returns g c =
     (g.C.ColdStore.entries c.args.cold.now) (g.C.ColdStore.limit c.args.cold.now) (g.F.Filter.admitted c.args.filter.now)
     c.args.session c.args.key c.in_ok-reading.reading c.in_ok-reading.ensures c.number-number.result c.number-number.ensures
     c.if-is_conflict.ensures c.then_some-line.result (c.then_some-line.ensures ∙ ap (λ b. then_some b (record { session = c.args.session; key = c.args.key })) c.is_line_new.ensures) c.if-is_ledger_short.ensures (sym c.in_default.is ∙ c.own_place.ensures) c.lookup-looked.result c.lookup-looked.ensures
-    (leb c.args.sheet.now.memo_length c.args.sheet.now.memo_used) refl c.in_ok-ending.ensures
+    (leb c.args.sheet.now.memo.length c.args.sheet.now.memo.used) refl c.in_ok-ending.ensures
     c.is_some.ensures c.end_version-notices.ensures.hot c.end_version-notices.ensures.memo c.note_line-lines-2.ensures.list in
     record { answer = ap answer_of given; after = ap after_of given }

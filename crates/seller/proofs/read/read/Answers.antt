@@ -20,17 +20,17 @@ returns-then-is_ledger_short-clause-after g c =
     c.if-is_ledger_short.ensures in
     ap after_of given
 
-pub invariant_of-sheet-2 : goal.invariant_of-sheet-2
-invariant_of-sheet-2 g c =
+pub invariant_of-sheet : goal.invariant_of-sheet
+invariant_of-sheet g c =
     let sheet = c.args.sheet.now in
     let long = (entered c.args.sheet.now c.args.hot.now c.args.memo.now c.args.ledger.now c.args.session c.in_ok-reading.ensures).ledger_long in
-    let bound = lined_count c.then_some-line.result (length c.args.ledger.now) sheet.ledger_used (omega (arith, sheet.ledger_fits)) in
-    record { hot_fits = sheet.hot_fits; memo_fits = sheet.memo_fits; ledger_fits = omega (arith, c.note_line-lines.ensures.count) }
+    let bound = lined_count c.then_some-line.result (length c.args.ledger.now) sheet.ledger.used (omega (arith, sheet.ledger.fits)) in
+    record { fits = omega (arith, c.note_line-lines.ensures.count) }
 
 pub returns : goal.returns
 returns g c =
     let σ = bare c.args.sheet.now c.args.hot.now c.args.memo.now c.args.ledger.now in
-    let rows = take c.args.sheet.now.hot_used c.args.hot.now in
+    let rows = take c.args.sheet.now.hot.used c.args.hot.now in
     let sees = hot_sees g.K.Key.number c.args.session c.in_ok-reading.reading.time (g.K.Key.number c.args.key) in
     let given = read_served g.K.Key.number c.args.sheet.now c.args.hot.now c.args.memo.now c.args.ledger.now
     (g.C.ColdStore.entries c.args.cold.now) (g.C.ColdStore.limit c.args.cold.now) (g.F.Filter.admitted c.args.filter.now)

@@ -8,7 +8,7 @@ use Rattle.scan.proofs.tables.Tables.lookup.Goals as goal
 
 pub returns-in-Some : goal.returns-in-Some
 returns-in-Some g c =
-    let rows = take c.args.self.now.sheet.now.hot_used c.args.self.now.hot.now in
+    let rows = take c.args.self.now.sheet.now.hot.used c.args.self.now.hot.now in
     let sees = λ (n : ℕ). hot_sees g.K.Key.number c.args.reader.session c.args.reader.time n in
     from_hot g.K.Key.number
     (store c.args.self.now.sheet.now c.args.self.now.hot.now c.args.self.now.memo.now [] (g.C.ColdStore.entries c.args.cold.now)
@@ -18,7 +18,7 @@ returns-in-Some g c =
 
 pub returns-then-not-admits : goal.returns-then-not-admits
 returns-then-not-admits g c =
-    let rows = take c.args.self.now.sheet.now.hot_used c.args.self.now.hot.now in
+    let rows = take c.args.self.now.sheet.now.hot.used c.args.self.now.hot.now in
     let sees = λ (n : ℕ). hot_sees g.K.Key.number c.args.reader.session c.args.reader.time n in
     let k = g.K.Key.number c.args.key.now in
     from_none g.K.Key.number
@@ -30,7 +30,7 @@ returns-then-not-admits g c =
 
 pub returns : goal.returns
 returns g c =
-    let rows = take c.args.self.now.sheet.now.hot_used c.args.self.now.hot.now in
+    let rows = take c.args.self.now.sheet.now.hot.used c.args.self.now.hot.now in
     let sees = λ (n : ℕ). hot_sees g.K.Key.number c.args.reader.session c.args.reader.time n in
     let k = g.K.Key.number c.args.key.now in
     from_cold g.K.Key.number

@@ -17,7 +17,7 @@ pub returns-then-is_entry_seen : goal.returns-then-is_entry_seen
 returns-then-is_entry_seen g c =
     let n = g.K.Key.number c.args.key.now in
     let es = g.C.ColdStore.entries c.args.cold.now in
-    let sees = λ (m tag : ℕ). noted_sees (notice_for g.K.Key.number (take c.args.self.now.sheet.now.memo_used c.args.self.now.memo.now) m tag)
+    let sees = λ (m tag : ℕ). noted_sees (notice_for g.K.Key.number (take c.args.self.now.sheet.now.memo.used c.args.self.now.memo.now) m tag)
     c.args.reader.session c.args.reader.time in
     let p = own_split n c.loop-found.tag es (g.met.C.ColdStore.ordered c.args.cold.now) c.in-Some.found c.in-Some.ensures in
     λ i. ap (λ (z : Found g.row.R.Denot). record { seen = Some (record { row = z.row; place = Cold z.tag }); finds = c.loop-found.finds + 1 }) (sym p.is)
@@ -29,7 +29,7 @@ pub returns-in_default-checked_add : goal.returns-in_default-checked_add
 returns-in_default-checked_add g c =
     let n = g.K.Key.number c.args.key.now in
     let es = g.C.ColdStore.entries c.args.cold.now in
-    let sees = λ (m tag : ℕ). noted_sees (notice_for g.K.Key.number (take c.args.self.now.sheet.now.memo_used c.args.self.now.memo.now) m tag)
+    let sees = λ (m tag : ℕ). noted_sees (notice_for g.K.Key.number (take c.args.self.now.sheet.now.memo.used c.args.self.now.memo.now) m tag)
     c.args.reader.session c.args.reader.time in
     λ i. ap (looked_at i)
     (walk_last n c.loop-found.tag es (g.met.C.ColdStore.ordered c.args.cold.now) sees c.loop-found.finds c.loop-found.invariant.0
@@ -49,7 +49,7 @@ loop-found-preserved g c =
     let n = g.K.Key.number c.args.key.now in
     let es = g.C.ColdStore.entries c.args.cold.now in
     let o = g.met.C.ColdStore.ordered c.args.cold.now in
-    let sees = λ (m tag : ℕ). noted_sees (notice_for g.K.Key.number (take c.args.self.now.sheet.now.memo_used c.args.self.now.memo.now) m tag)
+    let sees = λ (m tag : ℕ). noted_sees (notice_for g.K.Key.number (take c.args.self.now.sheet.now.memo.used c.args.self.now.memo.now) m tag)
     c.args.reader.session c.args.reader.time in
     let next : c.in-Some-checked_add.next ≡ c.in-Some.found.tag + 1 = search rules in
     let below : c.in-Some.found.tag + 1 < 4294967296 = search rules in
@@ -65,7 +65,7 @@ pub returns : goal.returns
 returns g c =
     let n = g.K.Key.number c.args.key.now in
     let es = g.C.ColdStore.entries c.args.cold.now in
-    let sees = λ (m tag : ℕ). noted_sees (notice_for g.K.Key.number (take c.args.self.now.sheet.now.memo_used c.args.self.now.memo.now) m tag)
+    let sees = λ (m tag : ℕ). noted_sees (notice_for g.K.Key.number (take c.args.self.now.sheet.now.memo.used c.args.self.now.memo.now) m tag)
     c.args.reader.session c.args.reader.time in
     λ i. ap (looked_at i)
     (walk_none n c.loop-found.tag es (g.met.C.ColdStore.ordered c.args.cold.now) sees c.loop-found.finds c.loop-found.invariant.0

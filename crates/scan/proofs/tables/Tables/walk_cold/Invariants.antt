@@ -8,7 +8,7 @@ abbrev pub invariant-loop-found : goal.invariant-loop-found
 invariant-loop-found g l =
     let es = g.C.ColdStore.entries l.cold in
     let k = g.K.Key.number l.key in
-    let sees = cold_sees g.K.Key.number (take l.self.sheet.now.memo_used l.self.memo.now) l.look.reader.session l.look.reader.time in
+    let sees = cold_sees g.K.Key.number (take l.self.sheet.now.memo.used l.self.memo.now) l.look.reader.session l.look.reader.time in
     (◌≡◌ {A = Looked g.row.K.Denot g.row.R.Denot} (walk sees (own k l.tag es) l.finds) (walk sees (own k 0 es) 0))
     × (l.finds + length (own k l.tag es) ≤ length es)
 
