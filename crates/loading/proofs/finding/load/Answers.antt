@@ -6,5 +6,4 @@ returns g c = record {
   answer = c.is_ok.ensures.value ∙ ap is_ok c.put.ensures.answer;
   after = c.put.ensures.after;
   limit = c.put.ensures.limit;
-  order = g.met.C.ColdStore.ordered c.put.new.self;
 }

@@ -11,7 +11,6 @@ returns g c =
       value = p.1;
       after = c.load.ensures.after;
       limit = c.load.ensures.limit;
-      order = c.load.ensures.order;
       has = p.0;
       keeps = c.add.ensures.keeps;
       again = p.2;
