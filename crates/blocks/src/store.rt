@@ -8,7 +8,8 @@ use keys::key::Key;
 use keys::packing::Packed;
 use std::marker::PhantomData;
 
-// Entries as bytes, 32 to a place. All its memory is reserved when it is made.
+// Entries as bytes, 32 to a place. All its memory is reserved when it is made. The bytes are one `Vec`, and no entries: a put lends the
+// 32 of its place to be written, and the packer the middle of them.
 #[derive(Drop)]
 pub struct BlockStore<K: Key, R: Packed> {
     pub(crate) bytes: Vec<u8>,

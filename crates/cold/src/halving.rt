@@ -10,7 +10,7 @@ use keys::key::OrderedKey;
 use std::alloc::Global;
 
 impl<K: OrderedKey, R> Held<K, R> {
-    // Whether the entry comes before a key and tag.
+    // Whether the entry comes before a key and tag. No comparison of tuples: a key has no `Ord`, and is asked its one more question.
     fn is_before(&self, key: &K, tag: u32) -> bool
         ensures { result ≡ below_by (K.Key.number self.now.key) self.now.tag (K.Key.number key.now) tag }
     {

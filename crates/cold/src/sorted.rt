@@ -5,7 +5,7 @@ ghost use Rattle.cold.specs.Sorted.{table};
 use keys::key::OrderedKey;
 
 // An entry of the table.
-#[derive(Clone, Copy)]
+#[derive(Clone, Copy, Debug, PartialEq, Eq)]
 pub struct Held<K, R> {
     pub key: K,
     pub tag: u32,

@@ -4,7 +4,7 @@ ghost use Rattle.filter.specs.Band.{lows, highs, in_band, lows_with, highs_with,
 use crate::Filter;
 
 // The lowest and the highest number of one remainder.
-#[derive(Clone, Copy)]
+#[derive(Clone, Copy, Debug, PartialEq, Eq)]
 struct Ends {
     low: u64,
     high: u64,

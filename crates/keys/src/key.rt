@@ -14,7 +14,7 @@ pub trait Key: Copy {
     ghost same: { (a b : Self) → number a ≡ number b → a ≡ b };
 }
 
-// A key with one more question.
+// A key with one more question, which only the sorted cold store asks: the trait says it by that name, and not by `Ord`.
 pub trait OrderedKey: Key {
     // Whether this key's number is smaller than the other's.
     fn is_below(&self, other: &Self) -> bool

@@ -33,10 +33,9 @@ pub(crate) fn load_all<C: ColdStore<Listing, ListingRow>>(store: &mut C, records
     ensures limit { C.ColdStore.limit store.new ≡ C.ColdStore.limit store.old }
 {
     let mut count = 0;
-    let mut tag = 1;
-    for read in records {
+    for (i, read) in records.iter().enumerate() {
+        let tag = i as u32 + 1;
         count += u64::from(load(store, tag, read));
-        tag += 1;
     }
     count
 }

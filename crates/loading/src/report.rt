@@ -46,7 +46,8 @@ fn read_all(heap: Global, out: &mut Vec<u8>, input: &[u8]) -> Result<Vec<Record>
     Ok(records)
 }
 
-// The number after that of the last record: 0 where there is no record, and none after 2^64 - 1.
+// The number after that of the last record: 0 where there is no record, and none after 2^64 - 1. By `map_or` it was tried, and its proof was
+// left open.
 fn next_number(records: &[Record]) -> Option<u64>
     ensures { result ≡ next_number records.now }
 {
@@ -55,6 +56,8 @@ fn next_number(records: &[Record]) -> Option<u64>
         None => Some(0),
     }
 }
+
+// Out, records and the two stores go together in the steps of `load_both` alone.
 
 // Looks for a key that was not loaded, if there is a number after the last one, and appends a line.
 fn push_next<

@@ -6,6 +6,8 @@ use records::writing::{Bit, RowOrNone};
 use std::alloc::AllocError;
 use std::io::Write;
 
+// Each line has a number and what two finds gave, with other things beside them: a struct of the three would be made at each call.
+
 // Appends the line differ k=NUMBER where two finds answer differently.
 fn push_differ(
     out: &mut Vec<u8>,

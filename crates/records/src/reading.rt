@@ -21,7 +21,8 @@ fn number(parts: &mut Parts<'_>, limit: u64) -> Option<u64>
     decimal(part, limit)
 }
 
-// Reads a row, written PRICE,SEATS,SELLER: numbers of 32, 16 and 32 bits.
+// Reads a row, written PRICE,SEATS,SELLER: numbers of 32, 16 and 32 bits. Each `as` is proved to lose nothing; `try_from` would have an
+// error that cannot come.
 pub fn listing_row(value: &[u8]) -> Option<ListingRow>
     ensures { result ≡ row_of value.now }
 {

@@ -23,7 +23,8 @@ pub fn report(heap: Global, input: &[u8]) -> Result<Vec<u8>, AllocError>
 // The most bytes that an archive's text may have.
 pub const LIMIT: usize = 65536;
 
-// All that is written for an archive's text, which may be too long to be served.
+// All that is written for an archive's text, which may be too long to be served. Loading has one of its own, over its own report: one for
+// both, with the report passed in, would need a clause for each.
 pub fn answer(heap: Global, input: &[u8]) -> Result<Vec<u8>, AllocError>
     ensures { IfOk result (λ v. v.items ≡ answer_of input.now) }
 {

@@ -20,7 +20,7 @@ pub enum NoticeEvent {
 }
 
 impl Kind {
-    // What a notice becomes; nothing where it is taken out.
+    // What a notice becomes; nothing where it is taken out. Kind and event are matched together, as the table of the rules has them.
     pub fn after(self, event: NoticeEvent) -> Option<Kind>
         ensures { result ≡ becomes self event }
     {

@@ -16,7 +16,7 @@ impl Side {
     }
 }
 
-// The layer of a cold store's refusal, inside a copy's. That type is another crate's, which can be given no method here.
+// The layer of a cold store's refusal, inside a copy's. A function and no `From`: its name says which of the two layers it tells.
 pub fn layer_inside(refusal: ColdRefusal) -> Layer
     ensures { result ≡ cold_layer refusal }
 {

@@ -45,7 +45,7 @@ impl Room {
     }
 }
 
-// The sheet of a store.
+// The sheet of a store. It has memory for 64 sessions, and for no more.
 #[derive(Drop)]
 pub struct Sheet {
     pub sessions: [Session; 64],

@@ -7,7 +7,7 @@ use rules::tables::{HotRow, Line, Notice};
 use rules::times::Reader;
 
 // A look at a key: who reads, and the number of the key.
-#[derive(Clone, Copy)]
+#[derive(Clone, Copy, Debug, PartialEq, Eq)]
 pub struct Look {
     pub reader: Reader,
     pub number: u64,
@@ -37,7 +37,7 @@ impl Look {
                 || row.end.is_some_and(|end| end.is_foreign(self.reader)))
     }
 
-    // The same of a notice. Its begin is a plain stamp: a trait of key, begin and end for both would be longer than the two.
+    // The same of a notice, whose begin is a plain stamp. One body for both would take key, begin and end apart at each call.
     pub(crate) fn is_foreign_notice<K: Key>(self, notice: &Notice<K>) -> bool
         ensures { result ≡ notice_foreign K.Key.number self.reader.session self.reader.time self.number notice.now }
     {

@@ -1,21 +1,21 @@
 ghost use Rattle.std.specs.Prelude.{◌≡◌, option_map};
 
 // Where a version stands: in a slot of the hot table, or in the cold store under a tag.
-#[derive(Clone, Copy)]
+#[derive(Clone, Copy, Debug, PartialEq, Eq)]
 pub enum Place {
     Hot(usize),
     Cold(u32),
 }
 
 // A version that a session sees.
-#[derive(Clone, Copy)]
+#[derive(Clone, Copy, Debug, PartialEq, Eq)]
 pub struct Seen<R> {
     pub row: R,
     pub place: Place,
 }
 
 // What a lookup answers: the version, if there is one, and how many finds it took.
-#[derive(Clone, Copy)]
+#[derive(Clone, Copy, Debug, PartialEq, Eq)]
 pub struct Looked<R> {
     pub seen: Option<Seen<R>>,
     pub finds: u32,

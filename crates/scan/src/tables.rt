@@ -70,7 +70,7 @@ impl<K: Key, R: Copy> Tables<'_, K, R> {
         })
     }
 
-    // Whether the key has a stamp above the read time.
+    // Whether the key has a stamp above the read time. Another two tests than `is_conflict` has: passed in, they would be named at each call.
     fn is_above(&self, look: Look) -> bool
         ensures { result ≡ above K.Key.number (bare_of self.now) look.reader.time look.number }
     {

@@ -32,7 +32,7 @@ impl Operand for Kind {
     }
 }
 
-// The number of a word s=SESSION, of 32 bits.
+// The number of a word s=SESSION, of 32 bits. The `as` is proved to lose nothing; `try_from` would have an error that cannot come.
 impl Operand for u32 {
     ghost reading = { session_in };
 

@@ -8,7 +8,7 @@ use std::alloc::AllocError;
 use std::fmt;
 use std::io::Write;
 
-// What a sweep did, in a word.
+// What a sweep did, in a word of this format. No `Display`: the type is another crate's.
 fn did(swept: Swept) -> &'static str
     ensures { result.now ≡ did_text swept }
 {

@@ -12,7 +12,7 @@ use slots::change::edit_at;
 use slots::count::append;
 
 // How a version is ended.
-#[derive(Clone, Copy)]
+#[derive(Clone, Copy, Debug, PartialEq, Eq)]
 pub(crate) enum Ending {
     // the hot row at a place
     Row(usize),

@@ -18,7 +18,8 @@ pub fn find_first<T: Copy, P: Fn(&T) -> bool>(slots: &[T], used: usize, test: P)
 {
     let list = listed(slots, used);
     for (at, it) in list.iter().enumerate() {
-        if test(it) {
+        let passes = test(it);
+        if passes {
             return Some(Hit { at, it: *it });
         }
     }

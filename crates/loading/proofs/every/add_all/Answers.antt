@@ -14,10 +14,3 @@ loop-read-preserved g c =
           (ap is (sym c.number.ensures) ∙ c.add.ensures.has),
       λ h e. c.add.ensures.keeps h (c.loop-read.invariant.1 h e),
     )
-
-pub returns : goal.returns
-returns g c = record {
-  has = front_all (λ r. g.F.Filter.admitted c.loop-read.filter r.key.id) c.args.records.now c.loop-read.read-index
-      c.loop-read-test.false c.loop-read.invariant.0;
-  keeps = c.loop-read.invariant.1;
-}

@@ -7,15 +7,6 @@ use Rattle.records.specs.Reading.{record_words}
 use Rattle.records.proofs.Rows.{record_whole, record_long, same_some}
 use Rattle.records.proofs.reading.record.Goals as goal
 
-pub returns-then-is_some : goal.returns-then-is_some
-returns-then-is_some c =
-    let one = word_given _ _ _ c.next.ensures.steps in
-    let two = word_given _ _ _ c.next-2.ensures.steps in
-    let three = word_given _ _ _ c.next-3.ensures.steps in
-    record_long (words_left c.of-words.result) (words_left c.next.new.self) (words_left c.next-2.new.self) one.1 two.1
-    (c.if-is_some.ensures ∙ same_some meant word_of c.next-3.result (first (words_left c.next-2.new.self)) three.0)
-    ∙ ap record_words c.of-words.ensures.all
-
 pub returns : goal.returns
 returns c =
     let one = word_given _ _ _ c.next.ensures.steps in

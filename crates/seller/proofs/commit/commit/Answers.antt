@@ -2,8 +2,7 @@ use Rattle.std.proofs.Common.{ℕ, ◌+◌, Bool, List, refl, ap, ◌∙◌, rul
 use Rattle.cold.specs.Cold.{Entry}
 use Rattle.rules.specs.Stores.{Store, store, lent, with_clock}
 use Rattle.rules.specs.Selling.{close, stamp_row, stamp_notice}
-use Rattle.seller.proofs.Admission.{entered}
-use Rattle.seller.proofs.Ends.{commit_unmarked, commit_stale, commit_late, commit_stamped}
+use Rattle.seller.proofs.Ends.{commit_unmarked, commit_stale, commit_stamped}
 use Rattle.seller.proofs.Parts.{answer_of, after_of, same_tables}
 use Rattle.seller.proofs.commit.commit.Goals as goal
 
@@ -14,11 +13,6 @@ returns-then-not-is_marked-clause-after g c =
     (store c.args.sheet.now c.args.hot.now c.args.memo.now c.args.ledger.now es limit admits) c.args.session c.in_ok-reading.reading c.in_ok-reading.ensures c.if-not-is_marked.ensures in
     λ es limit admits. c.close.ensures c.args.hot.now c.args.memo.now es limit admits ∙ ap after_of (given es limit admits)
 
-pub undo-requires : goal.undo-requires
-undo-requires g c =
-    (entered c.args.sheet.now c.args.hot.now c.args.memo.now c.args.ledger.now c.args.session
-    c.in_ok-reading.ensures).within
-
 pub returns-then-is_stale : goal.returns-then-is_stale
 returns-then-is_stale g c =
     let given = λ (es : List (Entry g.row.R.Denot)) (limit : ℕ) (admits : ℕ → Bool).
@@ -28,21 +22,6 @@ returns-then-is_stale g c =
       answer = λ es limit admits. ap answer_of (given es limit admits);
       after = λ es limit admits. c.undo.ensures es limit admits ∙ ap after_of (given es limit admits);
     }
-
-pub returns-then-sheet-ge-LAST_STAMP : goal.returns-then-sheet-ge-LAST_STAMP
-returns-then-sheet-ge-LAST_STAMP g c =
-    let given = λ (es : List (Entry g.row.R.Denot)) (limit : ℕ) (admits : ℕ → Bool).
-    commit_late g.K.Key.number (lent c.args.hot.now c.args.memo.now c.args.ledger.now)
-    (store c.args.sheet.now c.args.hot.now c.args.memo.now c.args.ledger.now es limit admits) c.args.session c.in_ok-reading.reading c.in_ok-reading.ensures c.if-not-is_marked.ensures c.if-is_stale.ensures c.if-sheet-ge-LAST_STAMP.true in
-    record {
-      answer = λ es limit admits. ap answer_of (given es limit admits);
-      after = λ es limit admits. ap after_of (given es limit admits);
-    }
-
-pub close-requires-2 : goal.close-requires-2
-close-requires-2 g c =
-    (entered c.args.sheet.now c.args.hot.now c.args.memo.now c.args.ledger.now c.args.session
-    c.in_ok-reading.ensures).within
 
 pub returns : goal.returns
 returns g c =

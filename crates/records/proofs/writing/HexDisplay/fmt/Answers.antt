@@ -4,9 +4,6 @@ use Rattle.std.proofs.Output.{has_written_append, has_written_of_eq}
 use Rattle.records.proofs.Digits.{hex_more}
 use Rattle.records.proofs.writing.HexDisplay.fmt.Goals as goal
 
-pub loop-b-init : goal.loop-b-init
-loop-b-init g c = search rules
-
 pub loop-b-preserved : goal.loop-b-preserved
 loop-b-preserved g c = λ p.
     let b = get_or c.args.self.now.0.now c.loop-b.b-index 0 in
