@@ -2,7 +2,7 @@ use Rattle.std.proofs.Common.{rules, ◌≡◌, ◌+◌, true, false, length, ta
 use Rattle.std.proofs.lemmas.Bool.{leb-false, le-leb, lt-leb}
 use Rattle.slots.specs.Lists.{first, hit}
 use Rattle.slots.proofs.Hits.{hit_none, hit_first}
-use Rattle.slots.proofs.Slots.{appended_more, count_with_more}
+use Rattle.slots.proofs.Slots.{appended_more}
 use Rattle.slots.proofs.Used.{found_changed}
 use Rattle.rules.specs.declared.tables.MoveMark.TheVariants.{Chosen}
 use Rattle.rules.specs.Stores.{lent, lengths_of}
@@ -68,15 +68,6 @@ returns-then-is_full g c =
       answer = λ es l a. rw (← e, f, m, t, full);
       after = λ es l a. rw (← e, f, m, t, full);
     }
-
-pub invariant_of-sheet : goal.invariant_of-sheet
-invariant_of-sheet g c =
-    let sheet = c.args.sheet.now in
-    let e = c.if-not-is_lent.ensures in
-    let room = memos_are (lent c.args.hot.now c.args.memo.now c.args.ledger.now) (lengths_of sheet) e in
-    let below = leb-false sheet.memo.length sheet.memo.used (sym c.if-is_full.ensures) in
-    let k = count_with_more (length c.args.memo.now) sheet.memo.used (omega arith) in
-    record { fits = omega (arith, c.append-sheet.ensures.count) }
 
 pub returns : goal.returns
 returns g c =

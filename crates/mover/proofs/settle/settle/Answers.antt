@@ -1,9 +1,8 @@
-use Rattle.std.proofs.Common.{rules, length, take, sym, ◌∙◌, arith}
+use Rattle.std.proofs.Common.{rules, take, sym, ◌∙◌}
 use Rattle.slots.proofs.Hits.{hit_none, hit_first, hit_removed}
 use Rattle.rules.specs.Times.{begin_stamp}
 use Rattle.rules.specs.Looking.{is_for}
 use Rattle.rules.specs.Moving.{row_copied, settle_notice}
-use Rattle.mover.proofs.Parts.{count_without_within}
 use Rattle.mover.proofs.settle.settle.Goals as goal
 
 pub returns-in_default : goal.returns-in_default
@@ -12,13 +11,6 @@ returns-in_default g c =
     let none = c.in_default.ensures (row_copied c.args.moving.tag) (λ x r k. search rules) in
     let f = hit_none _ _ (sym none) in
     record { answer = λ es l a. rw (← e, f); after = λ es l a. rw (← e, f); hand = search rules }
-
-pub invariant_of-sheet : goal.invariant_of-sheet
-invariant_of-sheet g c =
-    let sheet = c.args.sheet.now in
-    let k = count_without_within (length c.args.hot.now) sheet.hot.used c.in-Some.hit.at in
-    let h = sheet.hot.fits in
-    record { fits = omega (arith, c.take_out-sheet.ensures.count) }
 
 pub returns : goal.returns
 returns g c =

@@ -1,9 +1,8 @@
-use Rattle.std.proofs.Common.{length, take, sym, ◌∙◌, arith}
+use Rattle.std.proofs.Common.{take, sym, ◌∙◌}
 use Rattle.slots.proofs.Hits.{hit_none, hit_first, hit_removed}
 use Rattle.slots.proofs.Used.{found_changed}
 use Rattle.rules.specs.Moving.{with_kind}
 use Rattle.mover.specs.Due.{due_by}
-use Rattle.mover.proofs.Parts.{count_without_within}
 use Rattle.mover.proofs.sweep.sweep.Goals as goal
 
 pub returns-in_default : goal.returns-in_default
@@ -11,13 +10,6 @@ returns-in_default g c =
     let e = c.if-not-is_lent.ensures in
     let f = hit_none _ _ (sym c.in_default.ensures) in
     record { answer = λ a. rw (← e, f); after = λ a. rw (← e, f) }
-
-pub invariant_of-sheet : goal.invariant_of-sheet
-invariant_of-sheet g c =
-    let sheet = c.args.sheet.now in
-    let k = count_without_within (length c.args.memo.now) sheet.memo.used c.in-Some.hit.at in
-    let h = sheet.memo.fits in
-    record { fits = omega (arith, c.take_out-sheet.ensures.count) }
 
 pub returns-in-None : goal.returns-in-None
 returns-in-None g c =
