@@ -1,4 +1,5 @@
 ghost use Rattle.std.specs.Prelude.{◌≡◌, ℕ, ◌-◌, ◌^◌, ◌<◌, ◌≤◌, Bool, true, ◌++◌, length, IfOk, None, OnOk};
+ghost use Rattle.text.specs.Numbers.{Written};
 ghost use Rattle.text.specs.Parts.{lines};
 ghost use Rattle.cold.specs.Lists.{all};
 ghost use Rattle.records.specs.Entries.{entries};
@@ -172,10 +173,13 @@ fn report(heap: Global, input: &[u8]) -> Result<Vec<u8>, AllocError>
 }
 
 // All that is written for an archive's text, which may be too long to be served. It is fixed but for two sets of numbers, `bloom` and
-// `band`, that the filters admit; and these tell only in the line of the key that was not loaded.
+// `band`, that the filters admit; and these tell only in the line of the key that was not loaded. Each number in it is written so that
+// it is read back as that number.
+#[tactic(auto, using(text::proofs::Values::written))]
 pub fn answer(heap: Global, input: &[u8]) -> Result<Vec<u8>, AllocError>
-    ensures { IfOk result (λ v. ((bloom : ℕ → Bool)
+    ensures text { IfOk result (λ v. ((bloom : ℕ → Bool)
         × ((band : ℕ → Bool) × (v.items ≡ answer_of bloom band input.now)))) }
+    ensures numbers { Written }
 {
     if input.len() > LIMIT {
         return Vec::from_slice(heap, b"bad=size\n");

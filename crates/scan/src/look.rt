@@ -15,21 +15,21 @@ pub struct Look {
 
 impl Look {
     // A hot row of the key that the reader sees.
-    pub(crate) fn sees<K: Key, R>(self, row: &HotRow<K, R>) -> bool
+    pub fn sees<K: Key, R>(self, row: &HotRow<K, R>) -> bool
         ensures { result ≡ hot_sees K.Key.number self.reader.session self.reader.time self.number row.now }
     {
         row.key.number() == self.number && self.reader.sees(row.begin, row.end)
     }
 
     // The reader's own unfinished version of the key.
-    pub(crate) fn is_own<K: Key, R>(self, row: &HotRow<K, R>) -> bool
+    pub fn is_own<K: Key, R>(self, row: &HotRow<K, R>) -> bool
         ensures { result ≡ hot_own K.Key.number self.reader.session self.number row.now }
     {
         row.key.number() == self.number && row.begin.is_mark_of(self.reader.session)
     }
 
     // Of the key, with another session's mark or a stamp above the read time.
-    pub(crate) fn is_foreign<K: Key, R>(self, row: &HotRow<K, R>) -> bool
+    pub fn is_foreign<K: Key, R>(self, row: &HotRow<K, R>) -> bool
         ensures { result ≡ hot_foreign K.Key.number self.reader.session self.reader.time self.number row.now }
     {
         row.key.number() == self.number
@@ -38,7 +38,7 @@ impl Look {
     }
 
     // The same of a notice, whose begin is a plain stamp. One body for both would take key, begin and end apart at each call.
-    pub(crate) fn is_foreign_notice<K: Key>(self, notice: &Notice<K>) -> bool
+    pub fn is_foreign_notice<K: Key>(self, notice: &Notice<K>) -> bool
         ensures { result ≡ notice_foreign K.Key.number self.reader.session self.reader.time self.number notice.now }
     {
         notice.key.number() == self.number
@@ -47,7 +47,7 @@ impl Look {
     }
 
     // Of the key, with a stamp above the read time.
-    pub(crate) fn is_above<K: Key, R>(self, row: &HotRow<K, R>) -> bool
+    pub fn is_above<K: Key, R>(self, row: &HotRow<K, R>) -> bool
         ensures { result ≡ hot_above K.Key.number self.reader.time self.number row.now }
     {
         row.key.number() == self.number
@@ -56,7 +56,7 @@ impl Look {
     }
 
     // The same of a notice.
-    pub(crate) fn is_above_notice<K: Key>(self, notice: &Notice<K>) -> bool
+    pub fn is_above_notice<K: Key>(self, notice: &Notice<K>) -> bool
         ensures { result ≡ notice_above K.Key.number self.reader.time self.number notice.now }
     {
         notice.key.number() == self.number
@@ -65,7 +65,7 @@ impl Look {
     }
 
     // The reader's line for the key.
-    pub(crate) fn is_line<K: Key>(self, line: &Line<K>) -> bool
+    pub fn is_line<K: Key>(self, line: &Line<K>) -> bool
         ensures { result ≡ line_for K.Key.number self.reader.session self.number line.now }
     {
         line.session == self.reader.session && line.key.number() == self.number

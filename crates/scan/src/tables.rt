@@ -92,8 +92,11 @@ impl<K: Key, R: Copy> Tables<'_, K, R> {
         };
         reading.mode == Mode::Checked
             && any_of(self.ledger, self.sheet.ledger.used, |line| {
-                let number = line.key.number();
-                line.session == session && self.is_above(Look { reader, number })
+                line.session == session
+                    && self.is_above(Look {
+                        reader,
+                        number: line.key.number(),
+                    })
             })
     }
 

@@ -1,4 +1,5 @@
 ghost use Rattle.std.specs.Prelude.{◌≡◌, ◌++◌, codes, Some, OnOk};
+ghost use Rattle.text.specs.Numbers.{Written};
 ghost use Rattle.script.specs.Replies.{did_text, bad_text, answer_text, reply_text};
 
 use crate::reply::{Answered, BadRequest, Reply};
@@ -60,9 +61,11 @@ impl fmt::Display for BadRequest {
     }
 }
 
-// Appends the line that a reply is.
+// Appends the line that a reply is. Each number in it is written so that it is read back as that number.
+#[tactic(auto, using(text::proofs::Values::written))]
 pub fn push_reply(out: &mut Vec<u8>, reply: Reply) -> Result<(), AllocError>
-    ensures { OnOk result (out.new.items ≡ out.old.items ++ (reply_text reply ++ codes "\n")) }
+    ensures appended { OnOk result (out.new.items ≡ out.old.items ++ (reply_text reply ++ codes "\n")) }
+    ensures numbers { Written }
 {
     match reply {
         Ok(answered) => writeln!(out, "{answered}"),

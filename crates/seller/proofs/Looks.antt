@@ -27,7 +27,7 @@ use Rattle.seller.proofs.Admission.{is_admitted, entered}
 use Rattle.seller.proofs.Parts.{with_count}
 
 -- a line that is to be entered goes to the end, where the ledger has room for it
-lined : {K : Type 0} (line : Option (Line K)) (room used : ℕ) (xs : List (Line K)) → false ≡ (is_some line && leb room used)
+pub lined : {K : Type 0} (line : Option (Line K)) (room used : ℕ) (xs : List (Line K)) → false ≡ (is_some line && leb room used)
     → option_map_or (λ x. appended room used x xs) line xs ≡ option_map_or (λ x. xs ++ one x) line xs
 lined (Some x) room used xs h = appended_more room used x xs (leb-false room used (sym h))
 lined None room used xs h = refl

@@ -5,5 +5,4 @@
 mod filters;
 #[cfg(test)]
 mod stores;
-#[cfg(test)]
-mod turns;
+pub mod turns;

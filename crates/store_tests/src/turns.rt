@@ -4,13 +4,13 @@ use keys::rows::ListingRow;
 
 // What one turn of a script asks of a store.
 #[derive(Clone, Copy, Debug, PartialEq, Eq)]
-pub(crate) enum Ask {
+pub enum Ask {
     Put,
     Find,
     Remove,
 }
 
-fn row_of(tag: u32) -> ListingRow {
+pub fn row_of(tag: u32) -> ListingRow {
     ListingRow {
         price: tag,
         seller: 7,
@@ -19,7 +19,7 @@ fn row_of(tag: u32) -> ListingRow {
 }
 
 // Asks both stores the same, and tells whether they answer alike.
-fn alike<A: ColdStore<Listing, ListingRow>, B: ColdStore<Listing, ListingRow>>(
+pub fn alike<A: ColdStore<Listing, ListingRow>, B: ColdStore<Listing, ListingRow>>(
     a: &mut A,
     b: &mut B,
     ask: Ask,
@@ -43,7 +43,7 @@ fn ask_of(n: u64) -> Ask {
 }
 
 // A script of five keys with four tags each, from a generator of numbers.
-pub(crate) fn scripted<A: ColdStore<Listing, ListingRow>, B: ColdStore<Listing, ListingRow>>(
+pub fn scripted<A: ColdStore<Listing, ListingRow>, B: ColdStore<Listing, ListingRow>>(
     a: &mut A,
     b: &mut B,
     turns: u32,
@@ -67,7 +67,7 @@ pub(crate) fn scripted<A: ColdStore<Listing, ListingRow>, B: ColdStore<Listing, 
 }
 
 // The same ask of each of the five keys with each of the four tags.
-pub(crate) fn swept<A: ColdStore<Listing, ListingRow>, B: ColdStore<Listing, ListingRow>>(
+pub fn swept<A: ColdStore<Listing, ListingRow>, B: ColdStore<Listing, ListingRow>>(
     a: &mut A,
     b: &mut B,
     ask: Ask,
@@ -76,26 +76,26 @@ pub(crate) fn swept<A: ColdStore<Listing, ListingRow>, B: ColdStore<Listing, Lis
 }
 
 // Puts the tags from 0 on until a put is refused, and tells how many went in.
-fn filled<C: ColdStore<Listing, ListingRow>>(c: &mut C, most: u32) -> u32 {
+pub fn filled<C: ColdStore<Listing, ListingRow>>(c: &mut C, most: u32) -> u32 {
     (0..most)
         .find(|tag| c.put(Listing { id: 3 }, *tag, row_of(*tag)).is_err())
         .unwrap_or(most)
 }
 
 // Removes the tags from 0 on until one is not there, and tells how many went out.
-fn emptied<C: ColdStore<Listing, ListingRow>>(c: &mut C, most: u32) -> u32 {
+pub fn emptied<C: ColdStore<Listing, ListingRow>>(c: &mut C, most: u32) -> u32 {
     (0..most)
         .find(|tag| !c.remove(&Listing { id: 3 }, *tag))
         .unwrap_or(most)
 }
 
 // Whether no key below 5 has an entry.
-pub(crate) fn is_empty<C: ColdStore<Listing, ListingRow>>(c: &C) -> bool {
+pub fn is_empty<C: ColdStore<Listing, ListingRow>>(c: &C) -> bool {
     (0..5).all(|id| c.find(&Listing { id }, 0).is_none())
 }
 
 // Fills a store of eight places, asks at its limit, and empties it again.
-pub(crate) fn full_and_empty<C: ColdStore<Listing, ListingRow>>(c: &mut C) -> bool {
+pub fn full_and_empty<C: ColdStore<Listing, ListingRow>>(c: &mut C) -> bool {
     is_empty(c)
         && filled(c, 20) == 8
         && c.put(Listing { id: 4 }, 0, row_of(0)) == Err(ColdRefusal::Full(8))
@@ -105,7 +105,7 @@ pub(crate) fn full_and_empty<C: ColdStore<Listing, ListingRow>>(c: &mut C) -> bo
 }
 
 // With the tags 2 and 5 of a key in it, a find from 0 and from 2 answers 2, from 3 and from 5 answers 5, and from 6 nothing.
-pub(crate) fn finds_next<C: ColdStore<Listing, ListingRow>>(c: &mut C) -> bool {
+pub fn finds_next<C: ColdStore<Listing, ListingRow>>(c: &mut C) -> bool {
     let key = Listing { id: 9 };
     let _ = c.put(key, 5, row_of(5));
     let _ = c.put(key, 2, row_of(2));

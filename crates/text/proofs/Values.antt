@@ -3,7 +3,7 @@ use Rattle.std.proofs.lemmas.Fmt.{AppendsLastDigit, decimal_from_appends, length
 use Rattle.std.proofs.lemmas.List.{at_drop_more, at_drop_all}
 use Rattle.std.proofs.lemmas.Str.Parse.{IsNumeralModel, numerals_by_fold}
 use Rattle.std.proofs.lemmas.Bool.{le-leb, lt-leb, lt-ltb, le-ltb, and_left, and_right, and_from, cond-true, cond-false}
-use Rattle.text.specs.Numbers.{is_digit, all_digits, value_after, value, decimal_of, digits_within, decimal_text}
+use Rattle.text.specs.Numbers.{is_digit, all_digits, value_after, value, decimal_of, digits_within, decimal_text, Written}
 
 -- more digits never make a number smaller
 value_ge : (n : ℕ) (bs : List ℕ) → n ≤ value_after n bs
@@ -73,3 +73,6 @@ text_back n limit h l =
     let s : 0 < length (decimal_text n) = decimal_nonempty n h in
     cond-true _ (Some (value (decimal_text n))) None
     (and_from _ _ (lt-ltb 0 (length (decimal_text n)) s) (and_from _ _ d (le-leb (value (decimal_text n)) limit (omega arith)))) ∙ ap Some v
+
+pub written : Written
+written n h = (text_digits n h, λ limit l. text_back n limit h l)

@@ -1,5 +1,5 @@
 -- Decimal numbers as text.
-use Rattle.std.specs.Prelude.{ℕ, zero, suc, ◌+◌, ◌-◌, ◌*◌, ◌/◌, ◌%◌, Bool, true, cond, ◌&&◌, List, [], ◌∷◌, ◌++◌, length, Some, None, Option, nat_le, nat_lt}
+use Rattle.std.specs.Prelude.{◌≡◌, ◌<◌, ◌≤◌, ◌^◌, ℕ, zero, suc, ◌+◌, ◌-◌, ◌*◌, ◌/◌, ◌%◌, Bool, true, cond, ◌&&◌, List, [], ◌∷◌, ◌++◌, length, Some, None, Option, nat_le, nat_lt}
 use Rattle.std.specs.Fmt.{decimal}
 
 -- the digits '0' to '9'
@@ -30,3 +30,7 @@ digits_within (suc k) n = cond (nat_lt n 10) ((48 + n) ∷ []) (digits_within k 
 -- what `{}` writes of a number; of each below 2 ^ 64 that is digits_within 20
 abbrev pub decimal_text : ℕ → List ℕ
 decimal_text = decimal
+
+-- how each number of 64 bits is written: with its digits and no leading zero, and so that it is read back as that number
+abbrev pub Written : Type 0
+Written = (n : ℕ) → n < 2 ^ 64 → (decimal_text n ≡ digits_within 20 n) × ((limit : ℕ) → n ≤ limit → decimal_of limit (decimal_text n) ≡ Some n)

@@ -1,5 +1,5 @@
 use Rattle.std.proofs.Common.{sym, ap, ◌∙◌}
-use Rattle.loading.proofs.Loops.{front_none, front_more, front_all}
+use Rattle.loading.proofs.Loops.{front_none, front_more}
 use Rattle.loading.proofs.every.add_all.Goals as goal
 
 pub loop-read-init : goal.loop-read-init

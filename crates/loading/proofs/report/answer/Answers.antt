@@ -4,8 +4,8 @@ use Rattle.std.proofs.lemmas.Bool.{cond-true}
 use Rattle.loading.proofs.report.answer.Goals as goal
 
 -- too long: whatever the filters would admit
-pub returns-then-input-gt-LIMIT : goal.returns-then-input-gt-LIMIT
-returns-then-input-gt-LIMIT c =
+pub returns-then-input-gt-LIMIT-clause-text : goal.returns-then-input-gt-LIMIT-clause-text
+returns-then-input-gt-LIMIT-clause-text c =
     let none : ℕ → Bool = λ h. false in
     IfOk-weaker c.from_slice.result _ _
     (λ v h. (

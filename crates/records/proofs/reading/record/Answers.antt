@@ -4,7 +4,7 @@ use Rattle.text.specs.Words.{words_left, word_of, meant}
 use Rattle.text.specs.Parts.{first}
 use Rattle.text.proofs.Readers.{word_given}
 use Rattle.records.specs.Reading.{record_words}
-use Rattle.records.proofs.Rows.{record_whole, record_long, same_some}
+use Rattle.records.proofs.Rows.{record_whole, same_some}
 use Rattle.records.proofs.reading.record.Goals as goal
 
 pub returns : goal.returns

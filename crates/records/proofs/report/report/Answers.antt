@@ -18,7 +18,7 @@ loop-entry-preserved c =
     rw g (entry_more _ c.loop-entry.count (entries_left c.loop-entry.entry-iterator) _ c.in-Some.entry _ c.in-Some.ensures.steps
     c.in_ok-push_entry.ensures c.loop-entry.invariant)
 
-pub returns : goal.returns
-returns c =
+pub returns-clause-text : goal.returns-clause-text
+returns-clause-text c =
     entry_all _ c.loop-entry.count (entries_left c.loop-entry.entry-iterator) _ c.in-None.ensures.steps.0
     c.in_ok-push_summary.ensures c.loop-entry.invariant
