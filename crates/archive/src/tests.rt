@@ -1,5 +1,6 @@
 use loading::report::answer;
 use records::report::LIMIT;
+use records::writing::push_hex;
 use std::test::Fail;
 
 // With nothing loaded the key that is looked for is 0.
@@ -42,5 +43,14 @@ fn too_long(rt: HostRuntime) -> Result<(), Fail> {
     let input = vec![in rt.alloc(); b'\n'; LIMIT + 1]?;
     let out = answer(rt.alloc(), &input)?;
     assert!(rt; out.as_slice() == b"bad=size\n".as_slice());
+    Ok(())
+}
+
+// Two digits for each byte, the high one first.
+#[test]
+fn hexadecimal(rt: HostRuntime) -> Result<(), Fail> {
+    let mut out = Vec::new(rt.alloc());
+    push_hex(&mut out, &[0, 9, 10, 171, 255])?;
+    assert!(rt; out.as_slice() == b"00090aabff".as_slice());
     Ok(())
 }
