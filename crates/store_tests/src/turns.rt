@@ -1,3 +1,6 @@
+ghost use Rattle.std.specs.Prelude.{◌≡◌, true};
+ghost use Rattle.cold.specs.Cold.{in_order};
+
 use cold::store::{ColdRefusal, ColdStore, Found};
 use keys::listing::Listing;
 use keys::rows::ListingRow;
@@ -25,7 +28,10 @@ pub fn alike<A: ColdStore<Listing, ListingRow>, B: ColdStore<Listing, ListingRow
     ask: Ask,
     id: u64,
     tag: u32,
-) -> bool {
+) -> bool
+    ensures first { in_order (A.ColdStore.entries a.new) ≡ true }
+    ensures second { in_order (B.ColdStore.entries b.new) ≡ true }
+{
     let key = Listing { id };
     match ask {
         Ask::Put => a.put(key, tag, row_of(tag)) == b.put(key, tag, row_of(tag)),
@@ -47,7 +53,10 @@ pub fn scripted<A: ColdStore<Listing, ListingRow>, B: ColdStore<Listing, Listing
     a: &mut A,
     b: &mut B,
     turns: u32,
-) -> bool {
+) -> bool
+    ensures first { in_order (A.ColdStore.entries a.new) ≡ true }
+    ensures second { in_order (B.ColdStore.entries b.new) ≡ true }
+{
     let mut seed = 1u64;
     for _ in 0..turns {
         seed = seed
@@ -71,19 +80,26 @@ pub fn swept<A: ColdStore<Listing, ListingRow>, B: ColdStore<Listing, ListingRow
     a: &mut A,
     b: &mut B,
     ask: Ask,
-) -> bool {
+) -> bool
+    ensures first { in_order (A.ColdStore.entries a.new) ≡ true }
+    ensures second { in_order (B.ColdStore.entries b.new) ≡ true }
+{
     (0..5).all(|id| (0..4).all(|tag| alike(a, b, ask, id, tag)))
 }
 
 // Puts the tags from 0 on until a put is refused, and tells how many went in.
-pub fn filled<C: ColdStore<Listing, ListingRow>>(c: &mut C, most: u32) -> u32 {
+pub fn filled<C: ColdStore<Listing, ListingRow>>(c: &mut C, most: u32) -> u32
+    ensures { in_order (C.ColdStore.entries c.new) ≡ true }
+{
     (0..most)
         .find(|tag| c.put(Listing { id: 3 }, *tag, row_of(*tag)).is_err())
         .unwrap_or(most)
 }
 
 // Removes the tags from 0 on until one is not there, and tells how many went out.
-pub fn emptied<C: ColdStore<Listing, ListingRow>>(c: &mut C, most: u32) -> u32 {
+pub fn emptied<C: ColdStore<Listing, ListingRow>>(c: &mut C, most: u32) -> u32
+    ensures { in_order (C.ColdStore.entries c.new) ≡ true }
+{
     (0..most)
         .find(|tag| !c.remove(&Listing { id: 3 }, *tag))
         .unwrap_or(most)
@@ -95,7 +111,9 @@ pub fn is_empty<C: ColdStore<Listing, ListingRow>>(c: &C) -> bool {
 }
 
 // Fills a store of eight places, asks at its limit, and empties it again.
-pub fn full_and_empty<C: ColdStore<Listing, ListingRow>>(c: &mut C) -> bool {
+pub fn full_and_empty<C: ColdStore<Listing, ListingRow>>(c: &mut C) -> bool
+    ensures { in_order (C.ColdStore.entries c.new) ≡ true }
+{
     is_empty(c)
         && filled(c, 20) == 8
         && c.put(Listing { id: 4 }, 0, row_of(0)) == Err(ColdRefusal::Full(8))
