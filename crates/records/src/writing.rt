@@ -31,7 +31,8 @@ fn hex_digit(n: u8) -> u8
     if n < 10 { b'0' + n } else { b'a' - 10 + n }
 }
 
-// Appends the two hexadecimal digits of each byte: what `Hex` writes, at a fifth of the time that `{:02x}` of each byte takes.
+// Appends the two hexadecimal digits of each byte: what `Hex` writes. A record's line is written by it, since `{:02x}` of each byte took
+// most of the line's time.
 pub fn push_hex(out: &mut Vec<u8>, bytes: &[u8]) -> Result<(), AllocError>
     ensures { OnOk result (out.new.items ≡ out.old.items ++ hex_text bytes.now) }
 {
