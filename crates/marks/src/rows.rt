@@ -11,9 +11,12 @@ pub fn is_movable<K: Key, R>(row: &HotRow<K, R>, number: u64) -> bool
     row.key.number() == number && row.begin.stamp().is_some() && row.end.is_none()
 }
 
-// Whether the row bears the tag, chosen or copied.
+// Whether the row bears the tag, chosen or copied. One look at the mark: a sweep asks it of each hot row for each pending notice.
 pub fn bears<K, R>(row: &HotRow<K, R>, tag: u32) -> bool
     ensures { result ≡ row_bears tag row.now }
 {
-    row.mark == MoveMark::Chosen(tag) || row.mark == MoveMark::Copied(tag)
+    match row.mark {
+        MoveMark::Unmoved => false,
+        MoveMark::Chosen(borne) | MoveMark::Copied(borne) => borne == tag,
+    }
 }
